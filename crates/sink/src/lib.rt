@@ -1,0 +1,67 @@
+//! Sinks: what takes the events of a reading, a leaf for each token and a node for each reduction.
+ghost use mathlib.Core.Path.{_≡_};
+ghost use Prim.Native.Nat.{ℕ};
+ghost use lib.ListN.{length};
+ghost use Rattle.syntax.specs.Values.{Algebra};
+ghost use Rattle.sink.specs.Stacks.{Stack, leaf-answer, leaf-after, node-answer, node-after};
+ghost use Rattle.sink.specs.Faults.{number as numberOf, place as placeOf};
+use syntax::Token;
+
+/// Why a sink refuses an event, with the length of its list.
+#[derive(Clone, Copy, PartialEq, Eq, Debug)]
+pub enum SinkFault {
+    Full { trees: u64 },
+    TooFewTrees { trees: u64 },
+}
+
+impl SinkFault {
+    pub fn number(self) -> u8
+        ensures { λ r. ⌜ r ≡ numberOf self ⌝ }
+    {
+        match self {
+            SinkFault::Full { .. } => 23,
+            SinkFault::TooFewTrees { .. } => 24,
+        }
+    }
+
+    pub fn place(self) -> u64
+        ensures { λ r. ⌜ r ≡ placeOf self ⌝ }
+    {
+        match self {
+            SinkFault::Full { trees } => trees,
+            SinkFault::TooFewTrees { trees } => trees,
+        }
+    }
+}
+
+/// What reads trees as values, in postfix. Its meaning is the list of the values so far and how much more it can take.
+pub trait Sink {
+    ghost Value: { Type 0 };
+
+    ghost algebra: { Algebra Value };
+
+    ghost meaning: { Self → Stack Value };
+
+    /// What every call keeps of the memory behind the sink, from a value of the sink to a later one.
+    ghost grows: { Self → Self → Type 0 };
+
+    ghost still: { (s : Self) → grows s s };
+
+    ghost onward: { (a b c : Self) → grows a b → grows b c → grows a c };
+
+    /// How many values the list has.
+    fn trees(&self) -> u64
+        ensures { λ r. ⌜ r ≡ length (meaning (now (self .entry)) .list) ⌝ };
+
+    /// Appends the value of a token.
+    fn leaf(&mut self, token: Token) -> Result<(), SinkFault>
+        ensures answer { λ r. ⌜ r ≡ leaf-answer (meaning (now (self .entry))) ⌝ }
+        ensures after { λ _. ⌜ meaning (now (self .exit)) ≡ leaf-after algebra token (meaning (now (self .entry))) ⌝ }
+        ensures memory { λ _. ⌜ grows (now (self .entry)) (now (self .exit)) ⌝ };
+
+    /// Replaces the last `children` values by the value of a node over them.
+    fn node(&mut self, production: u8, children: u8) -> Result<(), SinkFault>
+        ensures answer { λ r. ⌜ r ≡ node-answer children (meaning (now (self .entry))) ⌝ }
+        ensures after { λ _. ⌜ meaning (now (self .exit)) ≡ node-after algebra production children (meaning (now (self .entry))) ⌝ }
+        ensures memory { λ _. ⌜ grows (now (self .entry)) (now (self .exit)) ⌝ };
+}
