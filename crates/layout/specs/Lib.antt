@@ -1,0 +1,6 @@
+pub mod Refusals
+pub mod Choices
+pub mod Records
+pub mod Meaning
+pub mod Passes
+pub mod Opening
