@@ -29,9 +29,9 @@ automaton sh = record {
 abbrev pub hints : Sheet → Hints
 hints sh = record {
   past-symbols = λ s. given [] (λ i. symbols (record-at sh i) (byte sh i 5)) (placed sh S s 0 0);
-  past-sets = λ s. run deepest (λ d. mapped (λ i. set-in sh (record-at sh i)) (placed sh K s d 0));
-  look-aheads = λ s p d. given (λ x. false) (λ i. set-in sh (record-at sh i)) (placed sh I s p d);
+  past-sets = λ s. run deepest (λ d. mapped (λ i. set-in (sh .format) (record-at sh i)) (placed sh K s d 0));
+  look-aheads = λ s p d. given (λ x. false) (λ i. set-in (sh .format) (record-at sh i)) (placed sh I s p d);
   nullable = λ n. given false (λ i. eqb (byte sh i 4) 1) (placed sh N n 0 0);
-  firsts = λ n. given (λ x. false) (λ i. set-in sh (record-at sh i)) (placed sh N n 0 0);
+  firsts = λ n. given (λ x. false) (λ i. set-in (sh .format) (record-at sh i)) (placed sh N n 0 0);
   known = λ n. present (placed sh N n 0 0);
 }

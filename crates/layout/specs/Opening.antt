@@ -1,5 +1,5 @@
 -- What opening refuses of a sheet, and where: the one account of it, in the order of the passes.
-use mathlib.Core.List.{List, [], _∷_}
+use mathlib.Core.List.{List, [], _∷_, _++_}
 use mathlib.Core.Bool.{Bool, true, false, cond, not, _&&_, _||_}
 use Prim.Native.Nat.{ℕ, _+_, _-_, _%_, _^_}
 use lib.Dec.{eqb, leb, ltb}
@@ -17,7 +17,7 @@ use Rattle.layout.specs.declared.Letter.the-variants.{A, D, G, I, K, N, P, S}
 use Rattle.layout.specs.declared.Refusal.{Refusal}
 use Rattle.layout.specs.declared.Refusal.the-variants.{Length, Order, Range, Absent, Contradiction}
 use Rattle.layout.specs.Choices.{or-else, given, present, unless, implies, first, below, some-below, every}
-use Rattle.layout.specs.Records.{Sheet, count, record-at, at, byte, code, letter, key, payload, set-in, no-symbol, maybe-symbol, symbols, action-in}
+use Rattle.layout.specs.Records.{Format, Sheet, count, record-at, at, byte, code, letter, key, payload, set-in, no-symbol, maybe-symbol, symbols, action-in}
 use Rattle.layout.specs.Meaning.{placed, automaton}
 use Rattle.layout.specs.Passes.{Pass, pass, told}
 
@@ -32,7 +32,7 @@ most-bytes = 65520
 
 abbrev pub length-fits : Sheet → Bool
 length-fits sh =
-    (not (eqb (length (sh .bytes)) 0) && eqb (length (sh .bytes) % sh .width) 0) && leb (length (sh .bytes)) most-bytes
+    (not (eqb (length (sh .bytes)) 0) && eqb (length (sh .bytes) % sh .format .width) 0) && leb (length (sh .bytes)) most-bytes
 
 -- ORDER
 
@@ -50,53 +50,53 @@ abbrev pub symbol-byte : ℕ → Bool
 symbol-byte b = (leb 1 b && ltb b terminals) || (leb 64 b && ltb b (64 + nonterminals))
 
 -- n symbols and then only the byte for none
-abbrev pub symbol-bytes : Sheet → List ℕ → ℕ → Bool
-symbol-bytes sh r n =
+abbrev pub symbol-bytes : Format → List ℕ → ℕ → Bool
+symbol-bytes f r n =
     leb n longest && (below n (λ k. symbol-byte (at r (8 + k)))
-    && below (sh .width - 8 - n) (λ k. eqb (at r (8 + n + k)) no-symbol))
+    && below (f .width - 8 - n) (λ k. eqb (at r (8 + n + k)) no-symbol))
 
 -- shift to a state, reduce by a production, or accept
-abbrev pub action-bytes : Sheet → ℕ → ℕ → Bool
-action-bytes sh f t =
-    ((eqb f 1 && ltb t (sh .states)) || (eqb f 2 && ltb t productions)) || (eqb f 3 && eqb t 0)
+abbrev pub action-bytes : Format → ℕ → ℕ → Bool
+action-bytes f x t =
+    ((eqb x 1 && ltb t (f .states)) || (eqb x 2 && ltb t productions)) || (eqb x 3 && eqb t 0)
 
 -- a set of terminals
-abbrev pub terminal-set : Sheet → List ℕ → Bool
-terminal-set sh r = ltb (payload sh r) (2 ^ terminals)
+abbrev pub terminal-set : Format → List ℕ → Bool
+terminal-set f r = ltb (payload f r) (2 ^ terminals)
 
 -- a set of states
-abbrev pub state-set : Sheet → List ℕ → Bool
-state-set sh r = ltb (payload sh r) (2 ^ sh .states)
+abbrev pub state-set : Format → List ℕ → Bool
+state-set f r = ltb (payload f r) (2 ^ f .states)
 
-abbrev pub occupied : Sheet → List ℕ → Bool
-occupied sh r = not (eqb (payload sh r) 0)
+abbrev pub occupied : Format → List ℕ → Bool
+occupied f r = not (eqb (payload f r) 0)
 
-abbrev pub in-range-of : Sheet → List ℕ → Letter → Bool
-in-range-of sh r A =
-    ltb (at r 1) (sh .states) && (ltb (at r 2) terminals && (unused r 3 4
-    && (action-bytes sh (at r 4) (at r 5) && unused r 6 (sh .width))))
-in-range-of sh r D =
-    ltb (at r 1) (sh .states) && (unused r 2 4 && (ltb (at r 4) productions && unused r 5 (sh .width)))
-in-range-of sh r G =
-    ltb (at r 1) (sh .states) && (ltb (at r 2) nonterminals && (unused r 3 4
-    && (ltb (at r 4) (sh .states) && unused r 5 (sh .width))))
-in-range-of sh r I =
-    ltb (at r 1) (sh .states) && ((ltb (at r 2) productions || eqb (at r 2) added) && (unused r 4 8
-    && (terminal-set sh r && occupied sh r)))
-in-range-of sh r K =
-    ltb (at r 1) (sh .states) && (ltb (at r 2) deepest && (unused r 3 8 && (state-set sh r && occupied sh r)))
-in-range-of sh r N =
+abbrev pub in-range-of : Format → List ℕ → Letter → Bool
+in-range-of f r A =
+    ltb (at r 1) (f .states) && (ltb (at r 2) terminals && (unused r 3 4
+    && (action-bytes f (at r 4) (at r 5) && unused r 6 (f .width))))
+in-range-of f r D =
+    ltb (at r 1) (f .states) && (unused r 2 4 && (ltb (at r 4) productions && unused r 5 (f .width)))
+in-range-of f r G =
+    ltb (at r 1) (f .states) && (ltb (at r 2) nonterminals && (unused r 3 4
+    && (ltb (at r 4) (f .states) && unused r 5 (f .width))))
+in-range-of f r I =
+    ltb (at r 1) (f .states) && ((ltb (at r 2) productions || eqb (at r 2) added) && (unused r 4 8
+    && (terminal-set f r && occupied f r)))
+in-range-of f r K =
+    ltb (at r 1) (f .states) && (ltb (at r 2) deepest && (unused r 3 8 && (state-set f r && occupied f r)))
+in-range-of f r N =
     ltb (at r 1) nonterminals && (unused r 2 4 && (ltb (at r 4) 2 && (unused r 5 8
-    && (terminal-set sh r && eqb (payload sh r % 2) 0))))
-in-range-of sh r P =
+    && (terminal-set f r && eqb (payload f r % 2) 0))))
+in-range-of f r P =
     ltb (at r 1) productions && (unused r 2 4 && (ltb (at r 4) nonterminals && (unused r 6 8
-    && symbol-bytes sh r (at r 5))))
-in-range-of sh r S =
-    ltb (at r 1) (sh .states) && (unused r 2 4 && ((symbol-byte (at r 4) || eqb (at r 4) no-symbol) && (unused r 6 8
-    && symbol-bytes sh r (at r 5))))
+    && symbol-bytes f r (at r 5))))
+in-range-of f r S =
+    ltb (at r 1) (f .states) && (unused r 2 4 && ((symbol-byte (at r 4) || eqb (at r 4) no-symbol) && (unused r 6 8
+    && symbol-bytes f r (at r 5))))
 
-abbrev pub in-range : Sheet → List ℕ → Bool
-in-range sh r = by-letter r (in-range-of sh r)
+abbrev pub in-range : Format → List ℕ → Bool
+in-range f r = by-letter r (in-range-of f r)
 
 -- NAMES
 
@@ -121,7 +121,7 @@ has-target sh Reject = true
 
 -- every state of the set that a record holds
 abbrev pub has-states : Sheet → List ℕ → Bool
-has-states sh r = below (sh .states) (λ s. let y = has-state sh s in implies (set-in sh r s) y)
+has-states sh r = below (sh .format .states) (λ s. let y = has-state sh s in implies (set-in (sh .format) r s) y)
 
 -- the number before one that is not 0
 abbrev pub after-none-or : (ℕ → Bool) → ℕ → Bool
@@ -212,7 +212,7 @@ length-refused sh i = unless (length-fits sh) Length
 
 -- order and then range, record by record
 abbrev pub record-refused : Sheet → ℕ → Option Refusal
-record-refused sh i = or-else (unless (in-order sh i) (Order i)) (unless (in-range sh (record-at sh i)) (Range i))
+record-refused sh i = or-else (unless (in-order sh i) (Order i)) (unless (in-range (sh .format) (record-at sh i)) (Range i))
 
 -- the names of each record; behind the last, that there is a record of each kind that must be
 abbrev pub name-refused : Sheet → ℕ → Option Refusal
@@ -221,10 +221,19 @@ name-refused sh i = unless (cond (ltb i (count sh)) (names-fit sh (record-at sh 
 abbrev pub sense-refused : Sheet → ℕ → Option Refusal
 sense-refused sh i = unless (makes-sense sh (record-at sh i)) (Contradiction i)
 
+-- records one by one, and then records with each other
+abbrev pub sorting-passes : Sheet → List Pass
+sorting-passes sh = pass 1 (length-refused sh) ∷ pass (count sh) (record-refused sh) ∷ []
+
+abbrev pub naming-passes : Sheet → List Pass
+naming-passes sh = pass (count sh + 1) (name-refused sh) ∷ pass (count sh) (sense-refused sh) ∷ []
+
 abbrev pub opening-passes : Sheet → List Pass
-opening-passes sh =
-    pass 1 (length-refused sh) ∷ pass (count sh) (record-refused sh) ∷ pass (count sh + 1) (name-refused sh)
-    ∷ pass (count sh) (sense-refused sh) ∷ []
+opening-passes sh = sorting-passes sh ++ naming-passes sh
+
+-- what keeps a sheet from being sorted: searched by key
+unfoldable pub sorting : Sheet → Option Refusal
+sorting sh = told (sorting-passes sh)
 
 -- what opening refuses
 unfoldable pub opening : Sheet → Option Refusal

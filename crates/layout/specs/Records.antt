@@ -16,22 +16,28 @@ use Rattle.layout.specs.declared.Letter.{Letter}
 use Rattle.layout.specs.declared.Letter.the-variants.{A, D, G, I, K, N, P, S}
 use Rattle.layout.specs.Choices.{gather}
 
--- bytes, with the length of a record and the number of states that their format has
-pub record Sheet : Type 0 where
+-- the length of a record, and the number of states that a sheet can have
+pub record Format : Type 0 where
   pub width : ℕ
   pub states : ℕ
+
+pub record Sheet : Type 0 where
+  pub format : Format
   pub bytes : List ℕ
 
--- bytes in the format of 16-byte records
+-- records of 16 bytes, 64 states
+abbrev pub sixteen : Format
+sixteen = record { width = 16; states = narrow }
+
 abbrev pub sheet : List ℕ → Sheet
-sheet bs = record { width = 16; states = narrow; bytes = bs }
+sheet bs = record { format = sixteen; bytes = bs }
 
 unfoldable pub count : Sheet → ℕ
-count sh = length (sh .bytes) / sh .width
+count sh = length (sh .bytes) / sh .format .width
 
 -- the bytes of record i
 unfoldable pub record-at : Sheet → ℕ → List ℕ
-record-at sh i = take (sh .width) (drop (sh .width * i) (sh .bytes))
+record-at sh i = take (sh .format .width) (drop (sh .format .width * i) (sh .bytes))
 
 -- byte k of a record
 abbrev pub at : List ℕ → ℕ → ℕ
@@ -76,16 +82,16 @@ number r k zero = 0
 number r k (suc n) = number r k n * 256 + at r (k + n)
 
 -- the bytes from 8 on as a set
-unfoldable pub payload : Sheet → List ℕ → ℕ
-payload sh r = number r 8 (sh .width - 8)
+unfoldable pub payload : Format → List ℕ → ℕ
+payload f r = number r 8 (f .width - 8)
 
 -- x is in a set: its bit is 1
-unfoldable pub member : Sheet → ℕ → ℕ → Bool
-member sh m x = ltb x (sh .states) && eqb ((m / 2 ^ x) % 2) 1
+unfoldable pub member : Format → ℕ → ℕ → Bool
+member f m x = ltb x (f .states) && eqb ((m / 2 ^ x) % 2) 1
 
 -- the set that a record holds
-abbrev pub set-in : Sheet → List ℕ → ℕ → Bool
-set-in sh r = let m = payload sh r in λ x. member sh m x
+abbrev pub set-in : Format → List ℕ → ℕ → Bool
+set-in f r = let m = payload f r in λ x. member f m x
 
 -- the byte that stands for no symbol
 abbrev pub no-symbol : ℕ

@@ -20,10 +20,10 @@ use Rattle.layout.specs.declared.Letter.{Letter}
 use Rattle.layout.specs.declared.Letter.the-variants.{A, D, G, I, K, N, P, S}
 use Rattle.layout.specs.declared.Refusal.the-variants.{Length, Order, Range, Absent, Contradiction}
 use Rattle.layout.specs.Choices.{present, unless, below, some-below}
-use Rattle.layout.specs.Records.{Sheet, count, record-at, at, byte, code, key, payload, set-in, no-symbol, maybe-symbol, symbols, action-in}
+use Rattle.layout.specs.Records.{Format, Sheet, count, record-at, at, byte, code, key, payload, set-in, no-symbol, maybe-symbol, symbols, action-in}
 use Rattle.layout.specs.Meaning.{placed, automaton}
-use Rattle.layout.specs.Opening.{most-bytes, length-fits, in-order, in-range, in-range-of, unused, symbol-byte, symbol-bytes, action-bytes, has-symbol, has-target, no-gap, names-known, names-fit, has-letter, has-all-kinds, action-makes-sense, acts-in, right-length, makes-sense-as, makes-sense, opening, opening-passes}
-use Rattle.wellformed.specs.Formed.{LengthFits, Unused, SymbolByte, SymbolBytes, ActionBytes, InRangeOf, Has, HasSymbol, HasTarget, NoGap, NamesKnown, SomeRecord, ActionMakesSense, MakesSenseAs, ByLetter, Formed, Opens-exactly-formed}
+use Rattle.layout.specs.Opening.{most-bytes, length-fits, in-order, in-range, in-range-of, unused, symbol-byte, symbol-bytes, action-bytes, has-symbol, has-target, no-gap, names-known, names-fit, has-letter, has-all-kinds, action-makes-sense, acts-in, right-length, makes-sense-as, makes-sense, record-refused, sorting, sorting-passes, naming-passes, opening, opening-passes}
+use Rattle.wellformed.specs.Formed.{LengthFits, Unused, SymbolByte, SymbolBytes, ActionBytes, InRangeOf, Has, HasSymbol, HasTarget, NoGap, NamesKnown, SomeRecord, ActionMakesSense, MakesSenseAs, ByLetter, Sorted, Formed, Sorts-exactly-sorted, Opens-exactly-formed}
 use Rattle.wellformed.specs.Told.{AllClean}
 use Rattle.wellformed.proofs.Tests.{T-unless, unless-T, or-none, none-or}
 use Rattle.wellformed.proofs.Says.{Says, always, both, either, never, if-so, split, less, at-most, equal, all-below, one-below, each, there, if-any, there-is, is-symbol}
@@ -38,37 +38,37 @@ says-unused r k m = all-below (m - k) (λ j. equal (at r (k + j)) 0)
 says-symbol-byte : (b : ℕ) → Says (symbol-byte b) (SymbolByte b)
 says-symbol-byte b = either (both (at-most 1 b) (less b terminals)) (both (at-most 64 b) (less b (64 + nonterminals)))
 
-module _ (sh : Sheet) (r : List ℕ) where
-  says-symbol-bytes : (n : ℕ) → Says (symbol-bytes sh r n) (SymbolBytes sh r n)
+module _ (f : Format) (r : List ℕ) where
+  says-symbol-bytes : (n : ℕ) → Says (symbol-bytes f r n) (SymbolBytes f r n)
   says-symbol-bytes n =
       both (at-most n longest)
       (both (all-below n (λ k. says-symbol-byte (at r (8 + k))))
-      (all-below (sh .width - 8 - n) (λ k. equal (at r (8 + n + k)) no-symbol)))
+      (all-below (f .width - 8 - n) (λ k. equal (at r (8 + n + k)) no-symbol)))
 
-  says-action-bytes : (f t : ℕ) → Says (action-bytes sh f t) (ActionBytes sh f t)
-  says-action-bytes f t =
-      either (either (both (equal f 1) (less t (sh .states))) (both (equal f 2) (less t productions))) (both (equal f 3) (equal t 0))
+  says-action-bytes : (x t : ℕ) → Says (action-bytes f x t) (ActionBytes f x t)
+  says-action-bytes x t =
+      either (either (both (equal x 1) (less t (f .states))) (both (equal x 2) (less t productions))) (both (equal x 3) (equal t 0))
 
-  abbrev says-state : Says (ltb (at r 1) (sh .states)) (at r 1 < sh .states)
-  says-state = less (at r 1) (sh .states)
+  abbrev says-state : Says (ltb (at r 1) (f .states)) (at r 1 < f .states)
+  says-state = less (at r 1) (f .states)
 
-  abbrev says-terminal-set : Says (ltb (payload sh r) (2 ^ terminals)) (payload sh r < 2 ^ terminals)
-  says-terminal-set = less (payload sh r) (2 ^ terminals)
+  abbrev says-terminal-set : Says (ltb (payload f r) (2 ^ terminals)) (payload f r < 2 ^ terminals)
+  says-terminal-set = less (payload f r) (2 ^ terminals)
 
-  says-range : (l : Letter) → Says (in-range-of sh r l) (InRangeOf sh r l)
+  says-range : (l : Letter) → Says (in-range-of f r l) (InRangeOf f r l)
   says-range A =
       both says-state (both (less (at r 2) terminals) (both (says-unused r 3 4)
-      (both (says-action-bytes (at r 4) (at r 5)) (says-unused r 6 (sh .width)))))
-  says-range D = both says-state (both (says-unused r 2 4) (both (less (at r 4) productions) (says-unused r 5 (sh .width))))
+      (both (says-action-bytes (at r 4) (at r 5)) (says-unused r 6 (f .width)))))
+  says-range D = both says-state (both (says-unused r 2 4) (both (less (at r 4) productions) (says-unused r 5 (f .width))))
   says-range G =
       both says-state (both (less (at r 2) nonterminals) (both (says-unused r 3 4)
-      (both (less (at r 4) (sh .states)) (says-unused r 5 (sh .width)))))
+      (both (less (at r 4) (f .states)) (says-unused r 5 (f .width)))))
   says-range I =
       both says-state (both (either (less (at r 2) productions) (equal (at r 2) added)) (both (says-unused r 4 8)
-      (both says-terminal-set (never (equal (payload sh r) 0)))))
+      (both says-terminal-set (never (equal (payload f r) 0)))))
   says-range K =
       both says-state (both (less (at r 2) deepest) (both (says-unused r 3 8)
-      (both (less (payload sh r) (2 ^ sh .states)) (never (equal (payload sh r) 0)))))
+      (both (less (payload f r) (2 ^ f .states)) (never (equal (payload f r) 0)))))
   says-range N =
       both (less (at r 1) nonterminals) (both (says-unused r 2 4) (both (less (at r 4) 2) (both (says-unused r 5 8)
       (both says-terminal-set (equal _ 0)))))
@@ -79,6 +79,7 @@ module _ (sh : Sheet) (r : List ℕ) where
       both says-state (both (says-unused r 2 4) (both (either (says-symbol-byte (at r 4)) (equal (at r 4) no-symbol))
       (both (says-unused r 6 8) (says-symbol-bytes (at r 5)))))
 
+module _ (sh : Sheet) (r : List ℕ) where
   says-has : (l : Letter) (a b : ℕ) → Says (present (placed sh l a b 0)) (Has sh l a b)
   says-has l a b = there (placed sh l a b 0)
 
@@ -107,7 +108,7 @@ module _ (sh : Sheet) (r : List ℕ) where
   says-names D = both (says-has S (at r 1) 0) (says-has P (at r 4) 0)
   says-names G = both (says-has S (at r 1) 0) (both (says-has N (at r 2) 0) (says-has S (at r 4) 0))
   says-names I = both (says-has S (at r 1) 0) (either (equal (at r 2) added) (says-has P (at r 2) 0))
-  says-names K = both (says-has S (at r 1) 0) (all-below (sh .states) (λ s. if-so (set-in sh r s) (says-has S s 0)))
+  says-names K = both (says-has S (at r 1) 0) (all-below (sh .format .states) (λ s. if-so (set-in (sh .format) r s) (says-has S s 0)))
   says-names N = always
   says-names P = both (says-has N (at r 4) 0) (each says-has-symbol (symbols r (at r 5)))
   says-names S = both (if-any says-has-symbol (maybe-symbol (at r 4))) (each says-has-symbol (symbols r (at r 5)))
@@ -153,8 +154,8 @@ module _ (sh : Sheet) where
   abbrev NamesFit : List ℕ → Letter → Type 0
   NamesFit r l = NoGap sh r l × NamesKnown sh r l
 
-  range-says : (i : ℕ) → Says (in-range sh (record-at sh i)) (ByLetter sh (InRangeOf sh) i)
-  range-says i = says-by-letter sh i _ (InRangeOf sh) (says-range sh (record-at sh i))
+  range-says : (i : ℕ) → Says (in-range (sh .format) (record-at sh i)) (ByLetter sh (InRangeOf (sh .format)) i)
+  range-says i = says-by-letter sh i _ (InRangeOf (sh .format)) (says-range (sh .format) (record-at sh i))
 
   names-say : (i : ℕ) → Says (names-fit sh (record-at sh i)) (ByLetter sh NamesFit i)
   names-say i =
@@ -188,7 +189,7 @@ module _ (sh : Sheet) where
         let r : key (record-at sh i) < key (record-at sh (i + suc (j - i - 1))) = rising i (j - i - 1) (omega arith) in
         rw same at r
 
-  next-in-order : Formed sh → (i : ℕ) → i < count sh → T (in-order sh i)
+  next-in-order : Sorted sh → (i : ℕ) → i < count sh → T (in-order sh i)
   next-in-order w zero lt = tt
   next-in-order w (suc i) lt =
       either (equal (suc i) 0) (less (key (record-at sh (suc i - 1))) (key (record-at sh (suc i)))) .back (inr
@@ -212,19 +213,34 @@ module _ (sh : Sheet) where
       go true h = absurd (let lt = h tt in omega arith)
       go false h = refl
 
-  to-formed : AllClean (opening-passes sh) → Formed sh
-  to-formed (length-clean, (records-clean, (names-clean, (sense-clean, end)))) =
-      let row : (i : ℕ) → i < count sh → T (in-order sh i) × T (in-range sh (record-at sh i)) =
-      λ i lt. let (o, r) = or-none _ _ (records-clean i lt) in (T-unless _ (Order i) o, T-unless _ (Range i) r)
+  to-sorted : AllClean (sorting-passes sh) → Sorted sh
+  to-sorted (length-clean, (records-clean, end)) =
+      let row : (i : ℕ) → i < count sh → T (in-order sh i) × T (in-range (sh .format) (record-at sh i)) =
+        λ i lt. let (o, r) = or-none _ _ (records-clean i lt) in (T-unless _ (Order i) o, T-unless _ (Range i) r)
       in
-      let named : (i : ℕ) → i < count sh → ByLetter sh NamesFit i =
-      λ i lt. names-say i .to (subst T (names-test i lt) (T-unless _ (Absent i) (names-clean i (omega arith))))
-      in
-      let kinds = says-kinds .to (subst T kinds-test (T-unless _ (Absent (count sh)) (names-clean (count sh) (omega arith)))) in
       record {
         length-fits = says-length .to (T-unless _ Length (length-clean 0 (lit< tt)));
         in-order = all-in-order (λ i lt. row i lt .0);
         in-range = λ i lt. range-says i .to (row i lt .1);
+      }
+
+  from-sorted : Sorted sh → AllClean (sorting-passes sh)
+  from-sorted w =
+      let record-clean : (i : ℕ) → i < count sh → record-refused sh i ≡ None =
+        λ i lt.
+        none-or _ _ (unless-T _ (Order i) (next-in-order w i lt))
+        ∙ unless-T _ (Range i) (range-says i .back (w .in-range i lt))
+      in
+      (λ i lt. unless-T _ Length (says-length .back (w .length-fits)), (record-clean, tt))
+
+  to-formed : AllClean (opening-passes sh) → Formed sh
+  to-formed (length-clean, (records-clean, (names-clean, (sense-clean, end)))) =
+      let named : (i : ℕ) → i < count sh → ByLetter sh NamesFit i =
+        λ i lt. names-say i .to (subst T (names-test i lt) (T-unless _ (Absent i) (names-clean i (omega arith))))
+      in
+      let kinds = says-kinds .to (subst T kinds-test (T-unless _ (Absent (count sh)) (names-clean (count sh) (omega arith)))) in
+      record {
+        sorted = to-sorted (length-clean, (records-clean, tt));
         gapless = λ i lt. let (l, e, h) = named i lt in (l, e, h .0);
         names-known = λ i lt. let (l, e, h) = named i lt in (l, e, h .1);
         some-production = kinds .0;
@@ -249,19 +265,20 @@ module _ (sh : Sheet) where
       (subst T (sym kinds-test) (says-kinds .back (w .some-production, (w .some-state, w .some-nonterminal)))))
       (cases-lt i (count sh))
 
+  naming-clean : Formed sh → AllClean (naming-passes sh)
+  naming-clean w =
+      (λ i lt. unless-T _ (Absent i) (names-back w i lt),
+       (λ i lt. unless-T _ (Contradiction i) (sense-says i .back (w .makes-sense i lt)), tt))
+
   from-formed : Formed sh → AllClean (opening-passes sh)
-  from-formed w = (
-    λ i lt. unless-T _ Length (says-length .back (w .length-fits)),
-    (
-      λ i lt.
-          none-or _ _ (unless-T _ (Order i) (next-in-order w i lt))
-          ∙ unless-T _ (Range i) (range-says i .back (w .in-range i lt)),
-      (
-        λ i lt. unless-T _ (Absent i) (names-back w i lt),
-        (λ i lt. unless-T _ (Contradiction i) (sense-says i .back (w .makes-sense i lt)), tt),
-      ),
-    ),
-  )
+  from-formed w =
+      let (length-clean, (records-clean, end)) = from-sorted (w .sorted) in
+      (length-clean, (records-clean, naming-clean w))
+
+pub sorts-exactly-sorted : Sorts-exactly-sorted
+unfolding sorting
+sorts-exactly-sorted sh =
+    (λ e. to-sorted sh (clean (sorting-passes sh) e), λ w. none-told (sorting-passes sh) (from-sorted sh w))
 
 pub opens-exactly-formed : Opens-exactly-formed
 unfolding opening

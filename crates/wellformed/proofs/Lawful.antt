@@ -112,10 +112,10 @@ module _ (sh : Sheet) (w : Formed sh) where
 
   -- STATES
 
-  pub state-number : (s : ℕ) → Has sh S s 0 → s < sh .states
+  pub state-number : (s : ℕ) → Has sh S s 0 → s < sh .format .states
   state-number s (i, e) =
       let r = row-of sh S s 0 0 i e in
-      subst (λ k. k < sh .states) (r .is-1) (range-at sh w S i (r .within) (r .is-0) .0)
+      subst (λ k. k < sh .format .states) (r .is-1) (range-at sh (w .sorted) S i (r .within) (r .is-0) .0)
 
   entered : (s : ℕ) → (s ≡ 0 → ⊥) → Has sh S s 0 → Present (automaton sh .incoming s)
   entered s other (i, e) =
@@ -127,7 +127,7 @@ module _ (sh : Sheet) (w : Formed sh) where
   has-state s h = ⊎-elim inl (λ other. inr (entered s other h)) (cases-eq s 0)
 
   pub state-has : (s : ℕ) → Present (automaton sh .incoming s) → Has sh S s 0
-  state-has s (X, e) = let (i, r, h) = incoming-row sh s X e in (i, placed-row sh w S s 0 0 i r)
+  state-has s (X, e) = let (i, r, h) = incoming-row sh s X e in (i, placed-row sh (w .sorted) S s 0 0 i r)
 
   states-gapless : (s : ℕ) → State (automaton sh) (suc s) → State (automaton sh) s
   states-gapless s (inl e) = absurd (omega arith)
@@ -136,15 +136,15 @@ module _ (sh : Sheet) (w : Formed sh) where
       let r = row-of sh S (suc s) 0 0 i e in
       has-state s (one-before (λ k. Has sh S k 0) (byte sh i 1) s (r .is-1) (gap-at S (suc s) 0 0 i r))
 
-  states-few : (s : ℕ) → State (automaton sh) s → s < sh .states
+  states-few : (s : ℕ) → State (automaton sh) s → s < sh .format .states
   states-few s (inl e) =
-      let (i, lt, l) = w .some-state in let h = range-at sh w S i lt l .0 in omega arith
+      let (i, lt, l) = w .some-state in let h = range-at sh (w .sorted) S i lt l .0 in omega arith
   states-few s (inr x) = state-number s (state-has s x)
 
   incoming-fits : (s : ℕ) (X : Symbol) → automaton sh .incoming s ≡ Some X → InRange X
   incoming-fits s X e =
       let (i, r, h) = incoming-row sh s X e in
-      go (range-at sh w S i (r .within) (r .is-0) .1 .1 .0) h
+      go (range-at sh (w .sorted) S i (r .within) (r .is-0) .1 .1 .0) h
     where
       go : {b : ℕ} → SymbolByte b ⊎ (b ≡ no-symbol) → maybe-symbol b ≡ Some X → InRange X
       go {b} (inl k) m =
@@ -166,12 +166,12 @@ module _ (sh : Sheet) (w : Formed sh) where
   has-rule p (i, e) = (rule-in (record-at sh i), ap (Rattle.layout.specs.Choices.mapped (λ i. rule-in (record-at sh i))) e)
 
   pub rule-has : (p : ℕ) → Present (automaton sh .grammar p) → Has sh P p 0
-  rule-has p (q, e) = let (i, r, h) = rule-row sh p q e in (i, placed-row sh w P p 0 0 i r)
+  rule-has p (q, e) = let (i, r, h) = rule-row sh p q e in (i, placed-row sh (w .sorted) P p 0 0 i r)
 
   rules : (p : ℕ) (q : Rule) → automaton sh .grammar p ≡ Some q → RuleInRange p q
   rules p q e =
       let (i, r, is) = rule-row sh p q e in
-      let h = range-at sh w P i (r .within) (r .is-0) in
+      let h = range-at sh (w .sorted) P i (r .within) (r .is-0) in
       let n = byte sh i 5 in
       let fits = h .1 .1 .1 .1 in
       let own : RuleInRange p (rule-in (record-at sh i)) = record {
@@ -195,9 +195,9 @@ module _ (sh : Sheet) (w : Formed sh) where
   first-rule : Present (automaton sh .grammar 0)
   first-rule =
       let (i, lt, l) = w .some-production in
-      let z = range-at sh w P i lt l .1 .0 in
+      let z = range-at sh (w .sorted) P i lt l .1 .0 in
       let r : Row sh P (byte sh i 1) 0 0 i = record { within = lt; is-0 = l; is-1 = refl; is-2 = z 0 (omega arith); is-3 = z 1 (omega arith) } in
-      has-rule 0 (down-to-0 (byte sh i 1) (i, placed-row sh w P _ 0 0 i r))
+      has-rule 0 (down-to-0 (byte sh i 1) (i, placed-row sh (w .sorted) P _ 0 0 i r))
 
   -- ACTIONS AND GOTOS
 
@@ -224,7 +224,7 @@ module _ (sh : Sheet) (w : Formed sh) where
       let (i, r, h) = action-row sh s a x other e in
       let known = names-at A s a 0 i r in (
         has-state s (subst (λ k. Has sh S k 0) (r .is-1) (known .0)),
-        subst (λ k. k < terminals) (r .is-2) (range-at sh w A i (r .within) (r .is-0) .1 .0),
+        subst (λ k. k < terminals) (r .is-2) (range-at sh (w .sorted) A i (r .within) (r .is-0) .1 .0),
         subst (HasTarget sh) h (known .1),
         subst₂ (ActionMakesSense sh) (r .is-2) h (sense-at A s a 0 i r),
       )
@@ -241,11 +241,11 @@ module _ (sh : Sheet) (w : Formed sh) where
   goto-enters s n t e =
       let (i, r, h) = goto-row sh s n t e in (
         has-state s (subst (λ k. Has sh S k 0) (r .is-1) (names-at G s n 0 i r .0)),
-        subst (λ k. k < nonterminals) (r .is-2) (range-at sh w G i (r .within) (r .is-0) .1 .0),
+        subst (λ k. k < nonterminals) (r .is-2) (range-at sh (w .sorted) G i (r .within) (r .is-0) .1 .0),
         subst₂ (λ k u. automaton sh .incoming u ≡ Some (Nonterminal k)) (r .is-2) h (sense-at G s n 0 i r),
       )
 
-  pub lawful : Lawful (sh .states) (automaton sh)
+  pub lawful : Lawful (sh .format .states) (automaton sh)
   lawful = record {
     rules = rules;
     first-rule = first-rule;

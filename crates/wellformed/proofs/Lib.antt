@@ -5,3 +5,4 @@ pub mod Told
 pub mod Rows
 pub mod Formed
 pub mod Lawful
+pub mod Loops

@@ -12,10 +12,10 @@ use Rattle.syntax.specs.Grammar.{Present}
 use Rattle.layout.specs.declared.Letter.{Letter}
 use Rattle.layout.specs.declared.Letter.the-variants.{A, D, G, I, K, N, P, S}
 use Rattle.layout.specs.Choices.{given, first}
-use Rattle.layout.specs.Records.{Sheet, count, record-at, at, byte, code, letter, letter-of, key-of, key, has-key}
+use Rattle.layout.specs.Records.{Format, Sheet, count, record-at, at, byte, code, letter, letter-of, key-of, key, has-key}
 use Rattle.layout.specs.Meaning.{placed}
 use Rattle.layout.specs.Opening.{by-letter}
-use Rattle.wellformed.specs.Formed.{Unused, InRangeOf, ByLetter, Formed}
+use Rattle.wellformed.specs.Formed.{Unused, InRangeOf, ByLetter, Sorted}
 use Rattle.wellformed.proofs.Tests.{eq-T, some-same, none-some, T-and, and-T}
 use Rattle.wellformed.proofs.Says.{Says}
 use Rattle.wellformed.proofs.Firsts.{first-none, first-at, first-some}
@@ -144,19 +144,19 @@ third r P = 0
 third r S = 0
 
 -- a record in range has these numbers in its key
-numbers : (sh : Sheet) (r : List ℕ) (l : Letter) → InRangeOf sh r l → (at r 2 ≡ second r l) × (at r 3 ≡ third r l)
-numbers sh r A h = (refl, h .1 .1 .0 0 (lit< tt))
-numbers sh r D h = (h .1 .0 0 (lit< tt), h .1 .0 1 (lit< tt))
-numbers sh r G h = (refl, h .1 .1 .0 0 (lit< tt))
-numbers sh r I h = (refl, refl)
-numbers sh r K h = (refl, h .1 .1 .0 0 (lit< tt))
-numbers sh r N h = (h .1 .0 0 (lit< tt), h .1 .0 1 (lit< tt))
-numbers sh r P h = (h .1 .0 0 (lit< tt), h .1 .0 1 (lit< tt))
-numbers sh r S h = (h .1 .0 0 (lit< tt), h .1 .0 1 (lit< tt))
+numbers : (f : Format) (r : List ℕ) (l : Letter) → InRangeOf f r l → (at r 2 ≡ second r l) × (at r 3 ≡ third r l)
+numbers f r A h = (refl, h .1 .1 .0 0 (lit< tt))
+numbers f r D h = (h .1 .0 0 (lit< tt), h .1 .0 1 (lit< tt))
+numbers f r G h = (refl, h .1 .1 .0 0 (lit< tt))
+numbers f r I h = (refl, refl)
+numbers f r K h = (refl, h .1 .1 .0 0 (lit< tt))
+numbers f r N h = (h .1 .0 0 (lit< tt), h .1 .0 1 (lit< tt))
+numbers f r P h = (h .1 .0 0 (lit< tt), h .1 .0 1 (lit< tt))
+numbers f r S h = (h .1 .0 0 (lit< tt), h .1 .0 1 (lit< tt))
 
-module _ (sh : Sheet) (w : Formed sh) where
-  pub range-at : (l : Letter) (i : ℕ) → i < count sh → byte sh i 0 ≡ code l → InRangeOf sh (record-at sh i) l
-  range-at l i lt e = at-letter sh (InRangeOf sh) i l e (w .in-range i lt)
+module _ (sh : Sheet) (w : Sorted sh) where
+  pub range-at : (l : Letter) (i : ℕ) → i < count sh → byte sh i 0 ≡ code l → InRangeOf (sh .format) (record-at sh i) l
+  range-at l i lt e = at-letter sh (InRangeOf (sh .format)) i l e (w .in-range i lt)
 
   -- the record with a key is found
   pub placed-row : (l : Letter) (a b c i : ℕ) → Row sh l a b c i → placed sh l a b c ≡ Some i
@@ -175,14 +175,14 @@ module _ (sh : Sheet) (w : Formed sh) where
   pub record Known (i : ℕ) : Type 0 where
     pub which : Letter
     pub is-letter : byte sh i 0 ≡ code which
-    pub ranged : InRangeOf sh (record-at sh i) which
+    pub ranged : InRangeOf (sh .format) (record-at sh i) which
     pub row : Row sh which (byte sh i 1) (second (record-at sh i) which) (third (record-at sh i) which) i
     pub found : placed sh which (byte sh i 1) (second (record-at sh i) which) (third (record-at sh i) which) ≡ Some i
 
   pub known : (i : ℕ) → i < count sh → Known i
   known i lt =
       let (l, e, h) = w .in-range i lt in
-      let z = numbers sh (record-at sh i) l h in
+      let z = numbers (sh .format) (record-at sh i) l h in
       let r : Row sh l (byte sh i 1) (second (record-at sh i) l) (third (record-at sh i) l) i =
       record { within = lt; is-0 = e; is-1 = refl; is-2 = z .0; is-3 = z .1 }
       in

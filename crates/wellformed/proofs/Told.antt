@@ -61,7 +61,7 @@ opening-named : (sh : Sheet) → NamesPlaces (opening-passes sh)
 opening-named sh = (
   λ i x lt e. ap place (sym (unless-some _ _ x e)) ∙ omega arith,
   (
-    λ i x lt e. records i x (or-some (unless (in-order sh i) (Order i)) (unless (in-range sh (record-at sh i)) (Range i)) x e),
+    λ i x lt e. records i x (or-some (unless (in-order sh i) (Order i)) (unless (in-range (sh .format) (record-at sh i)) (Range i)) x e),
     (
       λ i x lt e. ap place (sym (unless-some _ _ x e)),
       (λ i x lt e. ap place (sym (unless-some _ _ x e)), tt),
@@ -71,7 +71,7 @@ opening-named sh = (
   where
     records : (i : ℕ) (x : Refusal) →
         (unless (in-order sh i) (Order i) ≡ Some x)
-        ⊎ ((unless (in-order sh i) (Order i) ≡ None) × (unless (in-range sh (record-at sh i)) (Range i) ≡ Some x)) →
+        ⊎ ((unless (in-order sh i) (Order i) ≡ None) × (unless (in-range (sh .format) (record-at sh i)) (Range i) ≡ Some x)) →
         place x ≡ i
     records i x (inl h) = ap place (sym (unless-some _ _ x h))
     records i x (inr h) = ap place (sym (unless-some _ _ x (h .1)))

@@ -16,9 +16,9 @@ use Rattle.table.specs.Lawful.{Lawful}
 use Rattle.table.specs.Hints.{deepest, added}
 use Rattle.layout.specs.declared.Letter.{Letter}
 use Rattle.layout.specs.declared.Letter.the-variants.{A, D, G, I, K, N, P, S}
-use Rattle.layout.specs.Records.{Sheet, count, record-at, at, byte, code, key, payload, set-in, no-symbol, maybe-symbol, symbols, action-in}
+use Rattle.layout.specs.Records.{Format, Sheet, count, record-at, at, byte, code, key, payload, set-in, no-symbol, maybe-symbol, symbols, action-in}
 use Rattle.layout.specs.Meaning.{placed, automaton}
-use Rattle.layout.specs.Opening.{most-bytes, right-length, opening}
+use Rattle.layout.specs.Opening.{most-bytes, right-length, sorting, opening}
 
 -- Q holds of what is there
 abbrev pub IfAny : {X : Type 0} → (X → Type 0) → Option X → Type 0
@@ -27,7 +27,7 @@ IfAny Q (Some x) = Q x
 
 abbrev pub LengthFits : Sheet → Type 0
 LengthFits sh =
-    ((length (sh .bytes) ≡ 0 → ⊥) × (length (sh .bytes) % sh .width ≡ 0)) × (length (sh .bytes) ≤ most-bytes)
+    ((length (sh .bytes) ≡ 0 → ⊥) × (length (sh .bytes) % sh .format .width ≡ 0)) × (length (sh .bytes) ≤ most-bytes)
 
 -- RANGE
 
@@ -38,47 +38,47 @@ Unused r k m = (j : ℕ) → j < m - k → at r (k + j) ≡ 0
 abbrev pub SymbolByte : ℕ → Type 0
 SymbolByte b = ((1 ≤ b) × (b < terminals)) ⊎ ((64 ≤ b) × (b < 64 + nonterminals))
 
-abbrev pub SymbolBytes : Sheet → List ℕ → ℕ → Type 0
-SymbolBytes sh r n =
+abbrev pub SymbolBytes : Format → List ℕ → ℕ → Type 0
+SymbolBytes f r n =
     (n ≤ longest) × (((k : ℕ) → k < n → SymbolByte (at r (8 + k)))
-    × ((k : ℕ) → k < sh .width - 8 - n → at r (8 + n + k) ≡ no-symbol))
+    × ((k : ℕ) → k < f .width - 8 - n → at r (8 + n + k) ≡ no-symbol))
 
-abbrev pub ActionBytes : Sheet → ℕ → ℕ → Type 0
-ActionBytes sh f t =
-    (((f ≡ 1) × (t < sh .states)) ⊎ ((f ≡ 2) × (t < productions))) ⊎ ((f ≡ 3) × (t ≡ 0))
+abbrev pub ActionBytes : Format → ℕ → ℕ → Type 0
+ActionBytes f x t =
+    (((x ≡ 1) × (t < f .states)) ⊎ ((x ≡ 2) × (t < productions))) ⊎ ((x ≡ 3) × (t ≡ 0))
 
-abbrev pub TerminalSet : Sheet → List ℕ → Type 0
-TerminalSet sh r = payload sh r < 2 ^ terminals
+abbrev pub TerminalSet : Format → List ℕ → Type 0
+TerminalSet f r = payload f r < 2 ^ terminals
 
-abbrev pub StateSet : Sheet → List ℕ → Type 0
-StateSet sh r = payload sh r < 2 ^ sh .states
+abbrev pub StateSet : Format → List ℕ → Type 0
+StateSet f r = payload f r < 2 ^ f .states
 
-abbrev pub Occupied : Sheet → List ℕ → Type 0
-Occupied sh r = payload sh r ≡ 0 → ⊥
+abbrev pub Occupied : Format → List ℕ → Type 0
+Occupied f r = payload f r ≡ 0 → ⊥
 
-abbrev pub InRangeOf : Sheet → List ℕ → Letter → Type 0
-InRangeOf sh r A =
-    (at r 1 < sh .states) × ((at r 2 < terminals) × (Unused r 3 4
-    × (ActionBytes sh (at r 4) (at r 5) × Unused r 6 (sh .width))))
-InRangeOf sh r D =
-    (at r 1 < sh .states) × (Unused r 2 4 × ((at r 4 < productions) × Unused r 5 (sh .width)))
-InRangeOf sh r G =
-    (at r 1 < sh .states) × ((at r 2 < nonterminals) × (Unused r 3 4
-    × ((at r 4 < sh .states) × Unused r 5 (sh .width))))
-InRangeOf sh r I =
-    (at r 1 < sh .states) × (((at r 2 < productions) ⊎ (at r 2 ≡ added)) × (Unused r 4 8
-    × (TerminalSet sh r × Occupied sh r)))
-InRangeOf sh r K =
-    (at r 1 < sh .states) × ((at r 2 < deepest) × (Unused r 3 8 × (StateSet sh r × Occupied sh r)))
-InRangeOf sh r N =
+abbrev pub InRangeOf : Format → List ℕ → Letter → Type 0
+InRangeOf f r A =
+    (at r 1 < f .states) × ((at r 2 < terminals) × (Unused r 3 4
+    × (ActionBytes f (at r 4) (at r 5) × Unused r 6 (f .width))))
+InRangeOf f r D =
+    (at r 1 < f .states) × (Unused r 2 4 × ((at r 4 < productions) × Unused r 5 (f .width)))
+InRangeOf f r G =
+    (at r 1 < f .states) × ((at r 2 < nonterminals) × (Unused r 3 4
+    × ((at r 4 < f .states) × Unused r 5 (f .width))))
+InRangeOf f r I =
+    (at r 1 < f .states) × (((at r 2 < productions) ⊎ (at r 2 ≡ added)) × (Unused r 4 8
+    × (TerminalSet f r × Occupied f r)))
+InRangeOf f r K =
+    (at r 1 < f .states) × ((at r 2 < deepest) × (Unused r 3 8 × (StateSet f r × Occupied f r)))
+InRangeOf f r N =
     (at r 1 < nonterminals) × (Unused r 2 4 × ((at r 4 < 2) × (Unused r 5 8
-    × (TerminalSet sh r × (payload sh r % 2 ≡ 0)))))
-InRangeOf sh r P =
+    × (TerminalSet f r × (payload f r % 2 ≡ 0)))))
+InRangeOf f r P =
     (at r 1 < productions) × (Unused r 2 4 × ((at r 4 < nonterminals) × (Unused r 6 8
-    × SymbolBytes sh r (at r 5))))
-InRangeOf sh r S =
-    (at r 1 < sh .states) × (Unused r 2 4 × ((SymbolByte (at r 4) ⊎ (at r 4 ≡ no-symbol)) × (Unused r 6 8
-    × SymbolBytes sh r (at r 5))))
+    × SymbolBytes f r (at r 5))))
+InRangeOf f r S =
+    (at r 1 < f .states) × (Unused r 2 4 × ((SymbolByte (at r 4) ⊎ (at r 4 ≡ no-symbol)) × (Unused r 6 8
+    × SymbolBytes f r (at r 5))))
 
 -- NAMES
 
@@ -111,7 +111,7 @@ NamesKnown sh r A = Has sh S (at r 1) 0 × HasTarget sh (action-in r)
 NamesKnown sh r D = Has sh S (at r 1) 0 × Has sh P (at r 4) 0
 NamesKnown sh r G = Has sh S (at r 1) 0 × (Has sh N (at r 2) 0 × Has sh S (at r 4) 0)
 NamesKnown sh r I = Has sh S (at r 1) 0 × ((at r 2 ≡ added) ⊎ Has sh P (at r 2) 0)
-NamesKnown sh r K = Has sh S (at r 1) 0 × ((s : ℕ) → s < sh .states → T (set-in sh r s) → Has sh S s 0)
+NamesKnown sh r K = Has sh S (at r 1) 0 × ((s : ℕ) → s < sh .format .states → T (set-in (sh .format) r s) → Has sh S s 0)
 NamesKnown sh r N = Unit {0}
 NamesKnown sh r P = Has sh N (at r 4) 0 × Every (HasSymbol sh) (symbols r (at r 5))
 NamesKnown sh r S = IfAny (HasSymbol sh) (maybe-symbol (at r 4)) × Every (HasSymbol sh) (symbols r (at r 5))
@@ -143,10 +143,14 @@ MakesSenseAs sh r S =
 abbrev pub ByLetter : Sheet → (List ℕ → Letter → Type 0) → ℕ → Type 0
 ByLetter sh Q i = (l : Letter) × (byte sh i 0 ≡ code l) × Q (record-at sh i) l
 
-pub record Formed (sh : Sheet) : Type 0 where
+-- records in range, and in the order of their keys
+pub record Sorted (sh : Sheet) : Type 0 where
   pub length-fits : LengthFits sh
   pub in-order : (i j : ℕ) → i < j → j < count sh → key (record-at sh i) < key (record-at sh j)
-  pub in-range : (i : ℕ) → i < count sh → ByLetter sh (InRangeOf sh) i
+  pub in-range : (i : ℕ) → i < count sh → ByLetter sh (InRangeOf (sh .format)) i
+
+pub record Formed (sh : Sheet) : Type 0 where
+  pub sorted : Sorted sh
   pub gapless : (i : ℕ) → i < count sh → ByLetter sh (NoGap sh) i
   pub names-known : (i : ℕ) → i < count sh → ByLetter sh (NamesKnown sh) i
   pub some-production : SomeRecord sh P
@@ -154,10 +158,13 @@ pub record Formed (sh : Sheet) : Type 0 where
   pub some-nonterminal : SomeRecord sh N
   pub makes-sense : (i : ℕ) → i < count sh → ByLetter sh (MakesSenseAs sh) i
 
+abbrev pub Sorts-exactly-sorted : Type 0
+Sorts-exactly-sorted = (sh : Sheet) → (sorting sh ≡ None) ↔ Sorted sh
+
 -- opening refuses nothing exactly of the well-formed sheets
 abbrev pub Opens-exactly-formed : Type 0
 Opens-exactly-formed = (sh : Sheet) → (opening sh ≡ None) ↔ Formed sh
 
 -- a well-formed sheet holds a lawful table
 abbrev pub Formed-is-lawful : Type 0
-Formed-is-lawful = (sh : Sheet) → Formed sh → Lawful (sh .states) (automaton sh)
+Formed-is-lawful = (sh : Sheet) → Formed sh → Lawful (sh .format .states) (automaton sh)

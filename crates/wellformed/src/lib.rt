@@ -1,10 +1,11 @@
 //! Theorems about the bytes of a sheet: which are well-formed, what is told of the others, and what table they hold.
-ghost use Rattle.wellformed.specs.Formed.{Opens-exactly-formed, Formed-is-lawful};
+ghost use Rattle.wellformed.specs.Formed.{Sorts-exactly-sorted, Opens-exactly-formed, Formed-is-lawful};
 ghost use Rattle.wellformed.specs.Told.{Tells-first, Opening-tells-first};
 
-/// Opening refuses nothing exactly of the sheets that are well-formed.
+/// Opening refuses nothing exactly of the sheets that are well-formed, and its first two passes nothing of those sorted.
 pub fn opens_exactly_the_well_formed()
-    ensures { λ _. ⌜ Opens-exactly-formed ⌝ }
+    ensures sorted { λ _. ⌜ Sorts-exactly-sorted ⌝ }
+    ensures formed { λ _. ⌜ Opens-exactly-formed ⌝ }
 {}
 
 /// What is told is the refusal of the first pass that fails, at its least place.

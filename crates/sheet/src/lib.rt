@@ -1,0 +1,3 @@
+//! Raw sheets: bytes in which opening finds nothing, asked as a table.
+mod range;
+mod record;
