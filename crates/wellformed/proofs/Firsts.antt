@@ -6,7 +6,7 @@ use Prim.Native.Nat.{ℕ, zero, suc, _+_, _≤_, _<_}
 use native.Mathlib.Numerals.{add-one}
 use native.Mathlib.Omega.{arith}
 use lib.Dec.{T, ltb}
-use Rattle.std.proofs.shelf.Tests.{cases-order, cases-lt}
+use Rattle.std.proofs.shelf.Tests.{cases-order, cases-lt, false≢true}
 use Rattle.std.proofs.shelf.Ways.{tells}
 use Rattle.std.specs.declared.option.Option.{Option}
 use Rattle.std.specs.declared.option.Option.the-variants.{Some, None}
@@ -52,30 +52,47 @@ module _ {X : Type 0} (f : ℕ → Option X) where
   unfolding first
   first-more i e h = rw add-one (simp e h)
 
-pub least-none : (f : ℕ → Bool) (n : ℕ) → ((j : ℕ) → j < n → f j ≡ false) → least f n ≡ n
-unfolding least
-least-none f zero none = refl
-least-none f (suc n) none =
-    let before : least f n ≡ n = least-none f n (λ j l. none j (omega arith)) in
-    let here : f n ≡ false = none n (omega arith) in
-    grind (arith, tells)
+-- k is the least number below n that passes f, or n where none does
+pub record LeastAt (f : ℕ → Bool) (n k : ℕ) : Type 0 where
+  pub within : k ≤ n
+  pub none-below : (j : ℕ) → j < k → f j ≡ false
+  pub hit : k < n → f k ≡ true
 
--- the least number below n that passes f is k: none below k passes, and k does unless it is n
-pub least-is : (f : ℕ → Bool) (n k : ℕ) → k ≤ n → ((j : ℕ) → j < k → f j ≡ false) → (k < n → f k ≡ true) → least f n ≡ k
+pub least-at : (f : ℕ → Bool) (n : ℕ) → LeastAt f n (least f n)
 unfolding least
-least-is f zero k le none hit = omega arith
-least-is f (suc n) k le none hit =
+least-at f zero = record { within = omega arith; none-below = λ j lt. absurd (omega arith); hit = λ lt. absurd (omega arith) }
+least-at f (suc n) = go (least f n) (least-at f n) (cases-lt (least f n) n)
+  where
+    last : (k : ℕ) → LeastAt f n k → k ≡ n → (b : Bool) → f n ≡ b → LeastAt f (suc n) (cond b n (suc n))
+    last k h q true e = record {
+      within = omega arith;
+      none-below = λ j lt. h .none-below j (omega arith);
+      hit = λ lt. e;
+    }
+    last k h q false e = record {
+      within = omega arith;
+      none-below = below-or-last (λ j. f j ≡ false) n (λ j lt. h .none-below j (omega arith)) e;
+      hit = λ lt. absurd (omega arith);
+    }
+    go : (k : ℕ) → LeastAt f n k → (k < n) ⊎ (n ≤ k) → LeastAt f (suc n) (cond (ltb k n) k (cond (f n) n (suc n)))
+    go k h (inl q) =
+        let e : cond (ltb k n) k (cond (f n) n (suc n)) ≡ k = grind (arith, tells) in
+        subst (LeastAt f (suc n)) (sym e) (record { within = omega (arith, h .within); none-below = h .none-below; hit = λ lt. h .hit q })
+    go k h (inr q) =
+        let same : k ≡ n = omega (arith, h .within) in
+        let e : cond (ltb k n) k (cond (f n) n (suc n)) ≡ cond (f n) n (suc n) = grind (arith, tells) in
+        subst (LeastAt f (suc n)) (sym e) (last k h same (f n) refl)
+
+-- there is only one such number
+pub one-least : (f : ℕ → Bool) (n j k : ℕ) → LeastAt f n j → LeastAt f n k → j ≡ k
+one-least f n j k x y =
     ⊎-elim
-    (λ (q : k ≡ n).
-    let before : least f n ≡ n = least-none f n (λ j l. none j (omega arith)) in
-    let here : f n ≡ true = subst (λ j. f j ≡ true) q (hit (omega arith)) in
-    grind (arith, tells))
-    (⊎-elim
-    (λ (q : k < n).
-    let before : least f n ≡ k = least-is f n k (omega arith) none (λ l. hit (omega arith)) in
-    grind (arith, tells))
-    (λ (q : n < k).
-    let before : least f n ≡ n = least-none f n (λ j l. none j (omega arith)) in
-    let here : f n ≡ false = none n q in
-    grind (arith, tells)))
-    (cases-order k n)
+    (λ (q : j ≡ k). q)
+    (⊎-elim (λ (q : j < k). absurd (before j k q x y)) (λ (q : k < j). absurd (before k j q y x)))
+    (cases-order j k)
+  where
+    before : (j k : ℕ) → j < k → LeastAt f n j → LeastAt f n k → ⊥
+    before j k q x y = false≢true (sym (y .none-below j q) ∙ x .hit (omega (arith, y .within)))
+
+pub least-is : (f : ℕ → Bool) (n k : ℕ) → LeastAt f n k → least f n ≡ k
+least-is f n k h = one-least f n (least f n) k (least-at f n) h

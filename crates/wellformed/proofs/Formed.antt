@@ -7,9 +7,10 @@ use Prim.Native.Nat.{ℕ, zero, suc, _+_, _-_, _^_, _≤_, _<_}
 use native.Mathlib.Omega.{arith}
 use lib.Dec.{T, eqb, eqb→eq, leb, ltb, ltb→lt, lt→ltb, lit<}
 use lib.ListN.{length}
-use Rattle.std.proofs.shelf.Tests.{cases-lt}
+use Rattle.std.proofs.shelf.Tests.{cases-lt, false≢true}
 use Rattle.std.specs.declared.option.Option.{Option}
-use Rattle.std.specs.declared.option.Option.the-variants.{None}
+use Rattle.std.specs.declared.option.Option.the-variants.{Some, None}
+use Rattle.std.specs.Options.{isSome}
 use Rattle.syntax.specs.declared.Symbol.{Symbol}
 use Rattle.syntax.specs.declared.Symbol.the-variants.{Terminal, Nonterminal}
 use Rattle.syntax.specs.Grammar.{terminals, nonterminals, productions, longest}
@@ -20,7 +21,7 @@ use Rattle.layout.specs.declared.Letter.{Letter}
 use Rattle.layout.specs.declared.Letter.the-variants.{A, D, G, I, K, N, P, S}
 use Rattle.layout.specs.declared.Refusal.the-variants.{Length, Order, Range, Absent, Contradiction}
 use Rattle.layout.specs.Choices.{present, unless, below, some-below}
-use Rattle.layout.specs.Records.{Format, Sheet, count, record-at, at, byte, code, key, payload, set-in, no-symbol, maybe-symbol, symbols, action-in}
+use Rattle.layout.specs.Records.{Format, Sheet, sheet, count, record-at, at, byte, code, key, payload, set-in, no-symbol, maybe-symbol, symbols, action-in}
 use Rattle.layout.specs.Meaning.{placed, automaton}
 use Rattle.layout.specs.Opening.{most-bytes, length-fits, in-order, in-range, in-range-of, unused, symbol-byte, symbol-bytes, action-bytes, has-symbol, has-target, no-gap, names-known, names-fit, has-letter, has-all-kinds, action-makes-sense, acts-in, right-length, makes-sense-as, makes-sense, record-refused, sorting, sorting-passes, naming-passes, opening, opening-passes}
 use Rattle.wellformed.specs.Formed.{LengthFits, Unused, SymbolByte, SymbolBytes, ActionBytes, InRangeOf, Has, HasSymbol, HasTarget, NoGap, NamesKnown, SomeRecord, ActionMakesSense, MakesSenseAs, ByLetter, Sorted, Formed, Sorts-exactly-sorted, Opens-exactly-formed}
@@ -284,3 +285,23 @@ pub opens-exactly-formed : Opens-exactly-formed
 unfolding opening
 opens-exactly-formed sh =
     (λ e. to-formed sh (clean (opening-passes sh) e), λ w. none-told (opening-passes sh) (from-formed sh w))
+
+-- what the tests of a sheet that is held say
+
+not-some : {X : Type 0} (o : Option X) → isSome o ≡ false → o ≡ None
+not-some None e = refl
+not-some (Some x) e = absurd (false≢true (sym e))
+
+pub sorted-of : (sh : Sheet) → isSome (sorting sh) ≡ false → Sorted sh
+sorted-of sh e = sorts-exactly-sorted sh .0 (not-some _ e)
+
+pub formed-of : (sh : Sheet) → isSome (opening sh) ≡ false → Formed sh
+formed-of sh e = opens-exactly-formed sh .0 (not-some _ e)
+
+pub sorted-none : (sh : Sheet) → Sorted sh → isSome (sorting sh) ≡ false
+sorted-none sh w = ap isSome (sorts-exactly-sorted sh .1 w)
+
+-- a sorted sheet of 16-byte records has few of them
+pub few-records : (bs : List ℕ) → Sorted (sheet bs) → count (sheet bs) ≤ 4095
+unfolding count
+few-records bs w = omega (arith, w .length-fits .1)

@@ -6,3 +6,4 @@ pub mod Rows
 pub mod Formed
 pub mod Lawful
 pub mod Loops
+pub mod Seeks

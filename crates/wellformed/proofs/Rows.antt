@@ -92,14 +92,14 @@ module _ (sh : Sheet) where
   abbrev found-at : Letter → ℕ → ℕ → ℕ → ℕ → Option ℕ
   found-at l a b c i = cond (has-key l a b c (record-at sh i)) (Some i) None
 
-  key-row : (l : Letter) (a b c i : ℕ) → i < count sh → T (has-key l a b c (record-at sh i)) → Row sh l a b c i
+  pub key-row : (l : Letter) (a b c i : ℕ) → i < count sh → T (has-key l a b c (record-at sh i)) → Row sh l a b c i
   key-row l a b c i lt h =
       let (x, y) = T-and _ _ h in
       let (x₀, x₁) = T-and _ _ x in
       let (y₀, y₁) = T-and _ _ y in
       record { within = lt; is-0 = eqb→eq _ _ x₀; is-1 = eqb→eq _ _ x₁; is-2 = eqb→eq _ _ y₀; is-3 = eqb→eq _ _ y₁ }
 
-  row-key : (l : Letter) (a b c i : ℕ) → Row sh l a b c i → T (has-key l a b c (record-at sh i))
+  pub row-key : (l : Letter) (a b c i : ℕ) → Row sh l a b c i → T (has-key l a b c (record-at sh i))
   row-key l a b c i r =
       and-T _ _ (and-T _ _ (eq-T _ _ (r .is-0)) (eq-T _ _ (r .is-1))) (and-T _ _ (eq-T _ _ (r .is-2)) (eq-T _ _ (r .is-3)))
 
