@@ -5,3 +5,4 @@ pub mod Meaning
 pub mod Search
 pub mod Passes
 pub mod Opening
+pub mod Practice

@@ -71,6 +71,7 @@ state-set f r = ltb (payload f r) (2 ^ f .states)
 abbrev pub occupied : Format → List ℕ → Bool
 occupied f r = not (eqb (payload f r) 0)
 
+-- by the letter; the dot of an item may be any byte, since one too far is a contradiction
 abbrev pub in-range-of : Format → List ℕ → Letter → Bool
 in-range-of f r A =
     ltb (at r 1) (f .states) && (ltb (at r 2) terminals && (unused r 3 4
@@ -81,8 +82,8 @@ in-range-of f r G =
     ltb (at r 1) (f .states) && (ltb (at r 2) nonterminals && (unused r 3 4
     && (ltb (at r 4) (f .states) && unused r 5 (f .width))))
 in-range-of f r I =
-    ltb (at r 1) (f .states) && ((ltb (at r 2) productions || eqb (at r 2) added) && (unused r 4 8
-    && (terminal-set f r && occupied f r)))
+    ltb (at r 1) (f .states) && ((ltb (at r 2) productions || eqb (at r 2) added) && (ltb (at r 3) 256 && (unused r 4 8
+    && (terminal-set f r && occupied f r))))
 in-range-of f r K =
     ltb (at r 1) (f .states) && (ltb (at r 2) deepest && (unused r 3 8 && (state-set f r && occupied f r)))
 in-range-of f r N =

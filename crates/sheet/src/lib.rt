@@ -1,5 +1,10 @@
 //! Raw sheets: bytes in which opening finds nothing, asked as a table.
+mod naming;
+mod opening;
+mod practice;
 mod range;
+mod raw;
 mod record;
 mod search;
 mod sorted;
+pub use raw::RawSheet;

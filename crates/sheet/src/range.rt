@@ -7,6 +7,7 @@ ghost use lib.Dec.{eqb};
 ghost use Rattle.layout.specs.Choices.{below};
 ghost use Rattle.layout.specs.Records.{sixteen, at};
 ghost use Rattle.layout.specs.Opening.{in-range, in-range-of, unused as unusedIn, symbol-byte, symbol-bytes, action-bytes};
+use crate::record::NO_SYMBOL;
 use crate::record::letter_of;
 use crate::record::payload;
 use layout::Letter;
@@ -18,7 +19,6 @@ const PRODUCTIONS: u8 = 64;
 const ADDED: u8 = 254;
 const LONGEST: u8 = 8;
 const DEEPEST: u8 = 8;
-const NO_SYMBOL: u8 = 255;
 
 /// Bytes `from` to `to - 1` are zero.
 fn unused(row: &[u8], from: usize, to: usize) -> bool

@@ -2,13 +2,16 @@
 ghost use mathlib.Core.Path.{_≡_};
 ghost use Prim.Native.Nat.{ℕ, _+_, _*_, _≤_, _<_};
 ghost use lib.ListN.{length};
-ghost use Rattle.layout.specs.Records.{sixteen, sheet, count as countOf, record-at, letter-of as letterOf, key-of as keyOf, key as keyIn, payload as payloadIn, maybe-symbol, action-in};
+ghost use Rattle.layout.specs.Records.{sixteen, sheet, count as countOf, record-at, letter-of as letterOf, key-of as keyOf, key as keyIn, payload as payloadIn, member as memberOf, symbol as symbolOf, maybe-symbol, action-in};
 use layout::Letter;
 use syntax::Symbol;
 use table::Action;
 
 /// The length of a record.
 pub(crate) const WIDTH: usize = 16;
+
+/// The symbol byte that stands for none.
+pub(crate) const NO_SYMBOL: u8 = 255;
 
 /// Record `i` of a sheet.
 pub(crate) fn record_of(bytes: &[u8], i: usize) -> &[u8]
@@ -57,4 +60,36 @@ pub(crate) fn payload(row: &[u8]) -> u64
     u64::from_be_bytes([
         row[8], row[9], row[10], row[11], row[12], row[13], row[14], row[15],
     ])
+}
+
+/// `x` is in a set.
+pub(crate) fn member(set: u64, x: u8) -> bool
+    ensures { λ r. ⌜ r ≡ memberOf sixteen set x ⌝ }
+{
+    x < 64 && (set >> x) % 2 == 1
+}
+
+/// The symbol that a byte stands for.
+pub(crate) fn symbol(b: u8) -> Symbol
+    ensures { λ r. ⌜ r ≡ symbolOf b ⌝ }
+{
+    if b < 64 { Symbol::Terminal(b) } else { Symbol::Nonterminal(b - 64) }
+}
+
+pub(crate) fn maybe_symbol(b: u8) -> Option<Symbol>
+    ensures { λ r. ⌜ r ≡ maybe-symbol b ⌝ }
+{
+    if b == NO_SYMBOL { None } else { Some(symbol(b)) }
+}
+
+/// The action of an A record.
+pub(crate) fn action_of(row: &[u8]) -> Action
+    requires { ⌜ length (now row) ≡ 16 ⌝ }
+    ensures { λ r. ⌜ r ≡ action-in (now (row .entry)) ⌝ }
+{
+    match row[4] {
+        1 => Action::Shift(row[5]),
+        2 => Action::Reduce(row[5]),
+        _ => Action::Accept,
+    }
 }

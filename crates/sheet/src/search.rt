@@ -41,7 +41,7 @@ fn seek(bytes: &[u8], k: u32, from: usize, to: usize) -> usize
     low
 }
 
-fn code(letter: Letter) -> u8
+pub(crate) fn code(letter: Letter) -> u8
     ensures { λ r. ⌜ r ≡ codeOf letter ⌝ }
 {
     match letter {

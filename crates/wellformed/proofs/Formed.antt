@@ -65,8 +65,8 @@ module _ (f : Format) (r : List ℕ) where
       both says-state (both (less (at r 2) nonterminals) (both (says-unused r 3 4)
       (both (less (at r 4) (f .states)) (says-unused r 5 (f .width)))))
   says-range I =
-      both says-state (both (either (less (at r 2) productions) (equal (at r 2) added)) (both (says-unused r 4 8)
-      (both says-terminal-set (never (equal (payload f r) 0)))))
+      both says-state (both (either (less (at r 2) productions) (equal (at r 2) added)) (both (less (at r 3) 256)
+      (both (says-unused r 4 8) (both says-terminal-set (never (equal (payload f r) 0))))))
   says-range K =
       both says-state (both (less (at r 2) deepest) (both (says-unused r 3 8)
       (both (less (payload f r) (2 ^ f .states)) (never (equal (payload f r) 0)))))
@@ -198,7 +198,7 @@ module _ (sh : Sheet) where
       subst (λ k. key (record-at sh k) < key (record-at sh (suc i))) (sym back) (w .in-order i (suc i) (omega arith) lt)))
 
   -- the names pass tests a record, and behind the last that there is one of each kind
-  names-test : (i : ℕ) → i < count sh →
+  pub names-test : (i : ℕ) → i < count sh →
       cond (ltb i (count sh)) (names-fit sh (record-at sh i)) (has-all-kinds sh) ≡ names-fit sh (record-at sh i)
   names-test i lt = go (ltb i (count sh)) (lt→ltb i (count sh) lt)
     where
@@ -213,6 +213,10 @@ module _ (sh : Sheet) where
           cond b (names-fit sh (record-at sh (count sh))) (has-all-kinds sh) ≡ has-all-kinds sh
       go true h = absurd (let lt = h tt in omega arith)
       go false h = refl
+
+  pub kinds-test-at : (n : ℕ) → n ≡ count sh →
+    cond (ltb n (count sh)) (names-fit sh (record-at sh n)) (has-all-kinds sh) ≡ has-all-kinds sh
+  kinds-test-at n e = ap (λ k. cond (ltb k (count sh)) (names-fit sh (record-at sh k)) (has-all-kinds sh)) e ∙ kinds-test
 
   to-sorted : AllClean (sorting-passes sh) → Sorted sh
   to-sorted (length-clean, (records-clean, end)) =

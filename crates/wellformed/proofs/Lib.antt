@@ -7,3 +7,5 @@ pub mod Formed
 pub mod Lawful
 pub mod Loops
 pub mod Seeks
+pub mod Lookups
+pub mod Practice

@@ -43,7 +43,7 @@ if-code b c x l r e rest h = go (eqb b c) (eqb→eq b c) h
     go true s k = s tt ∙ sym e ∙ ap code (some-same k)
     go false s k = rest k
 
-code-of : (b : ℕ) (l : Letter) → letter-of b ≡ Some l → b ≡ code l
+pub code-of : (b : ℕ) (l : Letter) → letter-of b ≡ Some l → b ≡ code l
 code-of b l h =
     if-code b 65 A l _ refl (if-code b 68 D l _ refl (if-code b 71 G l _ refl (if-code b 73 I l _ refl
     (if-code b 75 K l _ refl (if-code b 78 N l _ refl (if-code b 80 P l _ refl (if-code b 83 S l _ refl

@@ -66,8 +66,8 @@ InRangeOf f r G =
     (at r 1 < f .states) × ((at r 2 < nonterminals) × (Unused r 3 4
     × ((at r 4 < f .states) × Unused r 5 (f .width))))
 InRangeOf f r I =
-    (at r 1 < f .states) × (((at r 2 < productions) ⊎ (at r 2 ≡ added)) × (Unused r 4 8
-    × (TerminalSet f r × Occupied f r)))
+    (at r 1 < f .states) × (((at r 2 < productions) ⊎ (at r 2 ≡ added)) × ((at r 3 < 256) × (Unused r 4 8
+    × (TerminalSet f r × Occupied f r))))
 InRangeOf f r K =
     (at r 1 < f .states) × ((at r 2 < deepest) × (Unused r 3 8 × (StateSet f r × Occupied f r)))
 InRangeOf f r N =

@@ -1,4 +1,5 @@
 //! Theorems about the bytes of a sheet: which are well-formed, what is told of the others, and what table they hold.
+ghost use Rattle.layout.specs.Practice.{Cases-hold};
 ghost use Rattle.wellformed.specs.Formed.{Sorts-exactly-sorted, Opens-exactly-formed, Formed-is-lawful};
 ghost use Rattle.wellformed.specs.Told.{Tells-first, Opening-tells-first};
 
@@ -18,3 +19,9 @@ pub fn tells_the_first_refusal()
 pub fn holds_a_lawful_table()
     ensures { λ _. ⌜ Formed-is-lawful ⌝ }
 {}
+
+/// The practice sheet opens, and sheets near it are refused where they should be.
+pub fn cases_hold()
+    ensures { λ _. ⌜ Cases-hold ⌝ }
+{
+}
