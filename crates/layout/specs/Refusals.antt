@@ -32,6 +32,6 @@ answered None = Ok tt
 answered (Some x) = Err x
 
 -- what a place holds after an answer: the new where nothing was refused
-abbrev pub held : {X : Type 0} → Option Refusal → X → X → X
-held None new old = new
-held (Some x) new old = old
+abbrev pub held : {X : Type 0} → Result (Unit {0}) Refusal → X → X → X
+held (Ok u) new old = new
+held (Err x) new old = old

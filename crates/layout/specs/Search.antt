@@ -1,7 +1,11 @@
 -- Where a record with a given key stands, or would stand, among records in key order.
 use mathlib.Core.List.{List, [], _∷_}
-use Prim.Native.Nat.{ℕ}
-use lib.Dec.{leb}
+use mathlib.Core.Bool.{cond}
+use Prim.Native.Nat.{ℕ, _+_}
+use lib.Dec.{leb, ltb}
+use lib.ListN.{getD}
+use Rattle.std.specs.declared.option.Option.{Option}
+use Rattle.std.specs.declared.option.Option.the-variants.{Some, None}
 use Rattle.layout.specs.declared.Letter.{Letter}
 use Rattle.layout.specs.declared.Letter.the-variants.{A, D, G, I, K, N, P, S}
 use Rattle.layout.specs.Choices.{least}
@@ -30,3 +34,7 @@ index-of K = 4
 index-of N = 5
 index-of P = 6
 index-of S = 7
+
+-- the record n behind the begin of a letter, if it comes before the end; at is the letter's place in the list
+abbrev pub by-number : List ℕ → ℕ → ℕ → Option ℕ
+by-number table at n = cond (ltb (getD table at 0 + n) (getD table (at + 1) 0)) (Some (getD table at 0 + n)) None

@@ -22,5 +22,5 @@ short r S h = h .1 .1 .1 .1 .0
 
 -- a record with symbols has few
 pub short-row : (bs : List ℕ) → Sorted (sheet bs) → (i : ℕ) → i < count (sheet bs) → (l : Letter) →
-  letter (record-at (sheet bs) i) ≡ Some l → Short l (record-at (sheet bs) i)
+    letter (record-at (sheet bs) i) ≡ Some l → Short l (record-at (sheet bs) i)
 short-row bs w i lt l e = short _ l (range-at (sheet bs) w l i lt (code-of _ l e))

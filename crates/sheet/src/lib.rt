@@ -7,4 +7,7 @@ mod raw;
 mod record;
 mod search;
 mod sorted;
+mod table;
+
 pub use raw::RawSheet;
+pub use table::RawSheetTable;

@@ -122,7 +122,8 @@ impl<'a> SortedSheet<'a> {
         match letter {
             Letter::A => self.has_state(row[1]) && self.has_target(action_of(row)),
             Letter::D => self.has_state(row[1]) && self.has_production(row[4]),
-            Letter::G => self.has_state(row[1]) && (self.has_nonterminal(row[2]) && self.has_state(row[4])),
+            Letter::G => self.has_state(row[1])
+                && (self.has_nonterminal(row[2]) && self.has_state(row[4])),
             Letter::I => self.has_state(row[1]) && (row[2] == ADDED || self.has_production(row[2])),
             Letter::K => self.has_state(row[1]) && self.has_states(row),
             Letter::N => true,

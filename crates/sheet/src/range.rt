@@ -13,11 +13,17 @@ use crate::record::payload;
 use layout::Letter;
 
 const STATES: u8 = 64;
+
 const TERMINALS: u8 = 32;
+
 const NONTERMINALS: u8 = 32;
+
 const PRODUCTIONS: u8 = 64;
+
 const ADDED: u8 = 254;
+
 const LONGEST: u8 = 8;
+
 const DEEPEST: u8 = 8;
 
 /// Bytes `from` to `to - 1` are zero.
@@ -87,7 +93,11 @@ fn action_in_range(row: &[u8]) -> bool
     requires { ⌜ length (now row) ≡ 16 ⌝ }
     ensures { λ r. ⌜ r ≡ in-range-of sixteen (now (row .entry)) Act ⌝ }
 {
-    row[1] < STATES && row[2] < TERMINALS && unused(row, 3, 4) && action_fits(row[4], row[5]) && unused(row, 6, 16)
+    row[1] < STATES
+        && row[2] < TERMINALS
+        && unused(row, 3, 4)
+        && action_fits(row[4], row[5])
+        && unused(row, 6, 16)
 }
 
 fn default_in_range(row: &[u8]) -> bool
@@ -101,7 +111,11 @@ fn goto_in_range(row: &[u8]) -> bool
     requires { ⌜ length (now row) ≡ 16 ⌝ }
     ensures { λ r. ⌜ r ≡ in-range-of sixteen (now (row .entry)) G ⌝ }
 {
-    row[1] < STATES && row[2] < NONTERMINALS && unused(row, 3, 4) && row[4] < STATES && unused(row, 5, 16)
+    row[1] < STATES
+        && row[2] < NONTERMINALS
+        && unused(row, 3, 4)
+        && row[4] < STATES
+        && unused(row, 5, 16)
 }
 
 fn item_in_range(row: &[u8]) -> bool
@@ -109,7 +123,11 @@ fn item_in_range(row: &[u8]) -> bool
     ensures { λ r. ⌜ r ≡ in-range-of sixteen (now (row .entry)) I ⌝ }
 {
     let looks = payload(row);
-    row[1] < STATES && (row[2] < PRODUCTIONS || row[2] == ADDED) && unused(row, 4, 8) && looks < 1 << TERMINALS && looks != 0
+    row[1] < STATES
+        && (row[2] < PRODUCTIONS || row[2] == ADDED)
+        && unused(row, 4, 8)
+        && looks < 1 << TERMINALS
+        && looks != 0
 }
 
 fn past_in_range(row: &[u8]) -> bool
@@ -125,21 +143,34 @@ fn nonterminal_in_range(row: &[u8]) -> bool
     ensures { λ r. ⌜ r ≡ in-range-of sixteen (now (row .entry)) N ⌝ }
 {
     let firsts = payload(row);
-    row[1] < NONTERMINALS && unused(row, 2, 4) && row[4] < 2 && unused(row, 5, 8) && firsts < 1 << TERMINALS && firsts % 2 == 0
+    row[1] < NONTERMINALS
+        && unused(row, 2, 4)
+        && row[4] < 2
+        && unused(row, 5, 8)
+        && firsts < 1 << TERMINALS
+        && firsts % 2 == 0
 }
 
 fn production_in_range(row: &[u8]) -> bool
     requires { ⌜ length (now row) ≡ 16 ⌝ }
     ensures { λ r. ⌜ r ≡ in-range-of sixteen (now (row .entry)) P ⌝ }
 {
-    row[1] < PRODUCTIONS && unused(row, 2, 4) && row[4] < NONTERMINALS && unused(row, 6, 8) && symbols_fit(row, row[5])
+    row[1] < PRODUCTIONS
+        && unused(row, 2, 4)
+        && row[4] < NONTERMINALS
+        && unused(row, 6, 8)
+        && symbols_fit(row, row[5])
 }
 
 fn state_in_range(row: &[u8]) -> bool
     requires { ⌜ length (now row) ≡ 16 ⌝ }
     ensures { λ r. ⌜ r ≡ in-range-of sixteen (now (row .entry)) S ⌝ }
 {
-    row[1] < STATES && unused(row, 2, 4) && (is_symbol(row[4]) || row[4] == NO_SYMBOL) && unused(row, 6, 8) && symbols_fit(row, row[5])
+    row[1] < STATES
+        && unused(row, 2, 4)
+        && (is_symbol(row[4]) || row[4] == NO_SYMBOL)
+        && unused(row, 6, 8)
+        && symbols_fit(row, row[5])
 }
 
 pub(crate) fn row_in_range(row: &[u8]) -> bool

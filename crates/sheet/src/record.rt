@@ -58,7 +58,14 @@ pub(crate) fn payload(row: &[u8]) -> u64
     ensures { λ r. ⌜ r ≡ payloadIn sixteen (now (row .entry)) ⌝ }
 {
     u64::from_be_bytes([
-        row[8], row[9], row[10], row[11], row[12], row[13], row[14], row[15],
+        row[8],
+        row[9],
+        row[10],
+        row[11],
+        row[12],
+        row[13],
+        row[14],
+        row[15],
     ])
 }
 
@@ -73,13 +80,21 @@ pub(crate) fn member(set: u64, x: u8) -> bool
 pub(crate) fn symbol(b: u8) -> Symbol
     ensures { λ r. ⌜ r ≡ symbolOf b ⌝ }
 {
-    if b < 64 { Symbol::Terminal(b) } else { Symbol::Nonterminal(b - 64) }
+    if b < 64 {
+        Symbol::Terminal(b)
+    } else {
+        Symbol::Nonterminal(b - 64)
+    }
 }
 
 pub(crate) fn maybe_symbol(b: u8) -> Option<Symbol>
     ensures { λ r. ⌜ r ≡ maybe-symbol b ⌝ }
 {
-    if b == NO_SYMBOL { None } else { Some(symbol(b)) }
+    if b == NO_SYMBOL {
+        None
+    } else {
+        Some(symbol(b))
+    }
 }
 
 /// The action of an A record.

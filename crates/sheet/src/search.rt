@@ -6,7 +6,7 @@ ghost use Rattle.std.specs.Options.{Cases};
 ghost use Rattle.layout.specs.declared.Letter.{Letter};
 ghost use Rattle.layout.specs.Records.{sheet, count as countOf, record-at, code as codeOf, key-of as keyOf, has-key as hasKey};
 ghost use Rattle.layout.specs.Meaning.{placed};
-ghost use Rattle.layout.specs.Search.{position, start as startOf, starts as startsOf, index-of as indexOf};
+ghost use Rattle.layout.specs.Search.{position, start as startOf, starts as startsOf, index-of as indexOf, by-number as byNumber};
 ghost use Rattle.wellformed.specs.Formed.{Sorted};
 ghost use Rattle.wellformed.proofs.Seeks.{Between};
 use crate::record::WIDTH;
@@ -111,7 +111,12 @@ impl<'a> SortedSheet<'a> {
     {
         let at = index_of(letter);
         let k = key_of(code(letter), a, b, c);
-        seek(self.bytes, k, self.starts[at] as usize, self.starts[at + 1] as usize)
+        seek(
+            self.bytes,
+            k,
+            self.starts[at] as usize,
+            self.starts[at + 1] as usize,
+        )
     }
 
     /// The record with a key.
@@ -121,6 +126,19 @@ impl<'a> SortedSheet<'a> {
     {
         let i = self.position_of(letter, a, b, c);
         if i < count(self.bytes) && has_key(record_of(self.bytes, i), letter, a, b, c) {
+            Some(i)
+        } else {
+            None
+        }
+    }
+
+    /// The record `n` behind the begin of a letter, if it comes before the end.
+    pub(crate) fn by_number(&self, letter: Letter, n: u8) -> Option<usize>
+        ensures { λ r. ⌜ r ≡ byNumber (startsOf (sheet (now (self .entry) .bytes .now))) (indexOf letter) n ⌝ }
+    {
+        let at = index_of(letter);
+        let i = self.starts[at] as usize + n as usize;
+        if i < self.starts[at + 1] as usize {
             Some(i)
         } else {
             None

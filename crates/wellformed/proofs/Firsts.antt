@@ -74,6 +74,7 @@ least-at f (suc n) = go (least f n) (least-at f n) (cases-lt (least f n) n)
       none-below = below-or-last (λ j. f j ≡ false) n (λ j lt. h .none-below j (omega arith)) e;
       hit = λ lt. absurd (omega arith);
     }
+
     go : (k : ℕ) → LeastAt f n k → (k < n) ⊎ (n ≤ k) → LeastAt f (suc n) (cond (ltb k n) k (cond (f n) n (suc n)))
     go k h (inl q) =
         let e : cond (ltb k n) k (cond (f n) n (suc n)) ≡ k = grind (arith, tells) in

@@ -20,15 +20,16 @@ use Rattle.table.specs.Hints.{deepest, added}
 use Rattle.layout.specs.declared.Letter.{Letter}
 use Rattle.layout.specs.declared.Letter.the-variants.{A, D, G, I, K, N, P, S}
 use Rattle.layout.specs.declared.Refusal.the-variants.{Length, Order, Range, Absent, Contradiction}
-use Rattle.layout.specs.Choices.{present, unless, below, some-below}
+use Rattle.layout.specs.Choices.{present, unless, first, below, some-below}
 use Rattle.layout.specs.Records.{Format, Sheet, sheet, count, record-at, at, byte, code, key, payload, set-in, no-symbol, maybe-symbol, symbols, action-in}
 use Rattle.layout.specs.Meaning.{placed, automaton}
-use Rattle.layout.specs.Opening.{most-bytes, length-fits, in-order, in-range, in-range-of, unused, symbol-byte, symbol-bytes, action-bytes, has-symbol, has-target, no-gap, names-known, names-fit, has-letter, has-all-kinds, action-makes-sense, acts-in, right-length, makes-sense-as, makes-sense, record-refused, sorting, sorting-passes, naming-passes, opening, opening-passes}
+use Rattle.layout.specs.Opening.{most-bytes, length-fits, in-order, in-range, in-range-of, unused, symbol-byte, symbol-bytes, action-bytes, has-symbol, has-target, no-gap, names-known, names-fit, has-letter, has-all-kinds, action-makes-sense, acts-in, right-length, makes-sense-as, makes-sense, length-refused, record-refused, sorting, sorting-passes, naming-passes, opening, opening-passes}
 use Rattle.wellformed.specs.Formed.{LengthFits, Unused, SymbolByte, SymbolBytes, ActionBytes, InRangeOf, Has, HasSymbol, HasTarget, NoGap, NamesKnown, SomeRecord, ActionMakesSense, MakesSenseAs, ByLetter, Sorted, Formed, Sorts-exactly-sorted, Opens-exactly-formed}
 use Rattle.wellformed.specs.Told.{AllClean}
 use Rattle.wellformed.proofs.Tests.{T-unless, unless-T, or-none, none-or}
 use Rattle.wellformed.proofs.Says.{Says, always, both, either, never, if-so, split, less, at-most, equal, all-below, one-below, each, there, if-any, there-is, is-symbol}
 use Rattle.wellformed.proofs.Rows.{says-by-letter, at-letter}
+use Rattle.wellformed.proofs.Firsts.{none-first}
 use Rattle.wellformed.proofs.Told.{clean, none-told}
 
 -- THE TESTS OF A RECORD
@@ -215,13 +216,13 @@ module _ (sh : Sheet) where
       go false h = refl
 
   pub kinds-test-at : (n : ℕ) → n ≡ count sh →
-    cond (ltb n (count sh)) (names-fit sh (record-at sh n)) (has-all-kinds sh) ≡ has-all-kinds sh
+      cond (ltb n (count sh)) (names-fit sh (record-at sh n)) (has-all-kinds sh) ≡ has-all-kinds sh
   kinds-test-at n e = ap (λ k. cond (ltb k (count sh)) (names-fit sh (record-at sh k)) (has-all-kinds sh)) e ∙ kinds-test
 
   to-sorted : AllClean (sorting-passes sh) → Sorted sh
   to-sorted (length-clean, (records-clean, end)) =
       let row : (i : ℕ) → i < count sh → T (in-order sh i) × T (in-range (sh .format) (record-at sh i)) =
-        λ i lt. let (o, r) = or-none _ _ (records-clean i lt) in (T-unless _ (Order i) o, T-unless _ (Range i) r)
+      λ i lt. let (o, r) = or-none _ _ (records-clean i lt) in (T-unless _ (Order i) o, T-unless _ (Range i) r)
       in
       record {
         length-fits = says-length .to (T-unless _ Length (length-clean 0 (lit< tt)));
@@ -232,16 +233,16 @@ module _ (sh : Sheet) where
   from-sorted : Sorted sh → AllClean (sorting-passes sh)
   from-sorted w =
       let record-clean : (i : ℕ) → i < count sh → record-refused sh i ≡ None =
-        λ i lt.
-        none-or _ _ (unless-T _ (Order i) (next-in-order w i lt))
-        ∙ unless-T _ (Range i) (range-says i .back (w .in-range i lt))
+      λ i lt.
+      none-or _ _ (unless-T _ (Order i) (next-in-order w i lt))
+      ∙ unless-T _ (Range i) (range-says i .back (w .in-range i lt))
       in
       (λ i lt. unless-T _ Length (says-length .back (w .length-fits)), (record-clean, tt))
 
   to-formed : AllClean (opening-passes sh) → Formed sh
   to-formed (length-clean, (records-clean, (names-clean, (sense-clean, end)))) =
       let named : (i : ℕ) → i < count sh → ByLetter sh NamesFit i =
-        λ i lt. names-say i .to (subst T (names-test i lt) (T-unless _ (Absent i) (names-clean i (omega arith))))
+      λ i lt. names-say i .to (subst T (names-test i lt) (T-unless _ (Absent i) (names-clean i (omega arith))))
       in
       let kinds = says-kinds .to (subst T kinds-test (T-unless _ (Absent (count sh)) (names-clean (count sh) (omega arith)))) in
       record {
@@ -271,9 +272,10 @@ module _ (sh : Sheet) where
       (cases-lt i (count sh))
 
   naming-clean : Formed sh → AllClean (naming-passes sh)
-  naming-clean w =
-      (λ i lt. unless-T _ (Absent i) (names-back w i lt),
-       (λ i lt. unless-T _ (Contradiction i) (sense-says i .back (w .makes-sense i lt)), tt))
+  naming-clean w = (
+    λ i lt. unless-T _ (Absent i) (names-back w i lt),
+    (λ i lt. unless-T _ (Contradiction i) (sense-says i .back (w .makes-sense i lt)), tt),
+  )
 
   from-formed : Formed sh → AllClean (opening-passes sh)
   from-formed w =
@@ -309,3 +311,7 @@ sorted-none sh w = ap isSome (sorts-exactly-sorted sh .1 w)
 pub few-records : (bs : List ℕ) → Sorted (sheet bs) → count (sheet bs) ≤ 4095
 unfolding count
 few-records bs w = omega (arith, w .length-fits .1)
+
+-- a sheet that is no longer than it may be
+pub short-bytes : (bs : List ℕ) → first (length-refused (sheet bs)) 1 ≡ None → length bs ≤ most-bytes
+short-bytes bs e = says-length (sheet bs) .to (T-unless _ Length (none-first (length-refused (sheet bs)) 1 e 0 (lit< tt))) .1

@@ -16,14 +16,17 @@ use Rattle.syntax.specs.declared.Symbol.the-variants.{Terminal, Nonterminal}
 use Rattle.syntax.specs.Grammar.{Rule, InRange, Every, Present, terminals, nonterminals}
 use Rattle.table.specs.declared.Action.{Action}
 use Rattle.table.specs.declared.Action.the-variants.{Shift, Reduce, Accept, Reject}
-use Rattle.table.specs.Lawful.{State, RuleInRange, Lawful}
+use Rattle.layout.specs.Opening.{opening}
+use Rattle.std.specs.Options.{isSome}
+use Rattle.table.specs.Lawful.{narrow, State, RuleInRange, Lawful}
 use Rattle.layout.specs.declared.Letter.{Letter}
 use Rattle.layout.specs.declared.Letter.the-variants.{A, D, G, P, S}
 use Rattle.layout.specs.Choices.{given, gather}
-use Rattle.layout.specs.Records.{Sheet, count, record-at, at, byte, code, no-symbol, symbol, maybe-symbol, symbols, rule-in, action-in}
+use Rattle.layout.specs.Records.{Sheet, sheet, count, record-at, at, byte, code, no-symbol, symbol, maybe-symbol, symbols, rule-in, action-in}
 use Rattle.layout.specs.Meaning.{placed, automaton}
 use Rattle.wellformed.specs.Formed.{SymbolByte, SymbolBytes, Has, NoGap, NamesKnown, HasTarget, ActionMakesSense, MakesSenseAs, Formed, Formed-is-lawful}
 use Rattle.wellformed.proofs.Tests.{none-some, some-same, mapped-some}
+use Rattle.wellformed.proofs.Formed.{formed-of}
 use Rattle.wellformed.proofs.Rows.{Row, row-of, range-at, at-letter, placed-row}
 
 -- SYMBOLS OF A RECORD
@@ -264,3 +267,7 @@ module _ (sh : Sheet) (w : Formed sh) where
 
 pub formed-is-lawful : Formed-is-lawful
 formed-is-lawful sh w = lawful sh w
+
+-- as a sheet that is held has it
+pub lawful-of : (bs : List ℕ) → isSome (opening (sheet bs)) ≡ false → Lawful narrow (automaton (sheet bs))
+lawful-of bs e = lawful (sheet bs) (formed-of (sheet bs) e)

@@ -9,3 +9,4 @@ pub mod Loops
 pub mod Seeks
 pub mod Lookups
 pub mod Practice
+pub mod Numbered

@@ -102,7 +102,7 @@ unfolding first
 first-start f = refl
 
 pub refuses-at : (f : ℕ → Option Refusal) (n i : ℕ) (x : Refusal) → first f i ≡ None → f i ≡ Some x → i < n →
-  Err x ≡ answered (first f n)
+    Err x ≡ answered (first f n)
 refuses-at f n i x e h lt = sym (ap answered (first-at f n i x (none-first f i e) h lt))
 
 pub refuses-nothing : (f : ℕ → Option Refusal) (n i : ℕ) → first f i ≡ None → i ≡ n → Ok tt ≡ answered (first f n)

@@ -90,7 +90,7 @@ module _ (sh : Sheet) (w : Sorted sh) where
       }
     where
       crossed : Between sh low (position sh low) (position sh low) → Between sh high (position sh high) (position sh high) →
-        position sh high < position sh low → ⊥
+          position sh high < position sh low → ⊥
       crossed l h r =
           omega (arith, l .under (position sh high) r, h .over (position sh high) (omega arith) (omega (arith, l .within)))
 
@@ -107,7 +107,7 @@ module _ (sh : Sheet) (w : Sorted sh) where
 
   -- a search for a record of a letter may begin where the records of the letter begin, and end where they end
   pub letter-range : (l : Letter) (a b c : ℕ) → a < 256 → b < 256 → c < 256 →
-    Between sh (key-of (code l) a b c) (getD (starts sh) (index-of l) 0) (getD (starts sh) (index-of l + 1) 0)
+      Between sh (key-of (code l) a b c) (getD (starts sh) (index-of l) 0) (getD (starts sh) (index-of l + 1) 0)
   letter-range A a b c x y z = between _ _ _ (omega arith) (omega arith)
   letter-range D a b c x y z = between _ _ _ (omega arith) (omega arith)
   letter-range G a b c x y z = between _ _ _ (omega arith) (omega arith)
@@ -130,17 +130,17 @@ module _ (sh : Sheet) (w : Sorted sh) where
 
   -- the same as code has it: equations in the place of equal terms
   pub search-range : (l : Letter) (a b c k at : ℕ) (table : List ℕ) → k ≡ key-of (code l) a b c → at ≡ index-of l →
-    table ≡ starts sh → a < 256 → b < 256 → c < 256 → Between sh k (getD table at 0) (getD table (at + 1) 0)
+      table ≡ starts sh → a < 256 → b < 256 → c < 256 → Between sh k (getD table at 0) (getD table (at + 1) 0)
   search-range l a b c k at table e f g x y z = simp (e, f, g) (letter-range l a b c x y z)
 
   pub search-finds : (l : Letter) (a b c i : ℕ) → i ≡ position sh (key-of (code l) a b c) → i < count sh →
-    has-key l a b c (record-at sh i) ≡ true → placed sh l a b c ≡ Some i
+      has-key l a b c (record-at sh i) ≡ true → placed sh l a b c ≡ Some i
   search-finds l a b c i e lt h = placed-row sh w l a b c i (key-row sh l a b c i lt (subst T (sym h) tt))
 
   pub search-misses : (l : Letter) (a b c i : ℕ) → i ≡ position sh (key-of (code l) a b c) →
-    (i < count sh → has-key l a b c (record-at sh i) ≡ false) → placed sh l a b c ≡ None
+      (i < count sh → has-key l a b c (record-at sh i) ≡ false) → placed sh l a b c ≡ None
   search-misses l a b c i e other =
       none-placed sh l a b c (λ j r.
-        let same : i ≡ j = e ∙ row-position l a b c j r in
-        let miss = subst (λ k. k < count sh → has-key l a b c (record-at sh k) ≡ false) same other (r .within) in
-        subst T miss (row-key sh l a b c j r))
+      let same : i ≡ j = e ∙ row-position l a b c j r in
+      let miss = subst (λ k. k < count sh → has-key l a b c (record-at sh k) ≡ false) same other (r .within) in
+      subst T miss (row-key sh l a b c j r))

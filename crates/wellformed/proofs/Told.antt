@@ -3,17 +3,19 @@ use mathlib.Core.Path.{_≡_, refl, sym, ap, subst, _∙_}
 use mathlib.Core.List.{List, [], _∷_}
 use mathlib.Core.Bool.{cond}
 use mathlib.Core.Logic.{_⊎_, inl, inr, _↔_}
-use Prim.Native.Nat.{ℕ, _<_}
+use Prim.Native.Nat.{ℕ, _+_, _<_}
 use native.Mathlib.Omega.{arith}
 use lib.Dec.{ltb}
+use Rattle.std.specs.declared.option.Option.{Option}
 use Rattle.std.specs.declared.option.Option.the-variants.{Some, None}
+use Rattle.std.specs.declared.result.Result.the-variants.{Ok, Err}
 use Rattle.layout.specs.declared.Refusal.{Refusal}
 use Rattle.layout.specs.declared.Refusal.the-variants.{Length, Order, Range, Absent, Contradiction}
-use Rattle.layout.specs.Refusals.{place}
-use Rattle.layout.specs.Choices.{unless, first}
+use Rattle.layout.specs.Refusals.{place, answered}
+use Rattle.layout.specs.Choices.{or-else, unless, first}
 use Rattle.layout.specs.Records.{Sheet, record-at, count}
 use Rattle.layout.specs.Passes.{Pass, told}
-use Rattle.layout.specs.Opening.{in-order, in-range, opening, opening-passes}
+use Rattle.layout.specs.Opening.{in-order, in-range, length-refused, record-refused, name-refused, sense-refused, sorting, opening, opening-passes}
 use Rattle.wellformed.specs.Told.{CleanBelow, RefusesFirst, Tells, AllClean, NamesPlaces, Tells-first, Opening-tells-first}
 use Rattle.wellformed.proofs.Tests.{none-some, or-none, none-or, or-some, some-or, unless-some}
 use Rattle.wellformed.proofs.Firsts.{first-none, none-first, first-at, first-some}
@@ -79,3 +81,53 @@ opening-named sh = (
 pub opening-tells-first : Opening-tells-first
 unfolding opening
 opening-tells-first sh x = tells-first (opening-passes sh) (opening-named sh) .1 x
+
+-- THE PASSES OF AN OPENING, ONE BY ONE
+
+-- what the answer of a pass says
+pub ok-none : (o : Option Refusal) → Ok tt ≡ answered o → o ≡ None
+ok-none None e = refl
+ok-none (Some x) e = absurd (let z : _≡_ {A = ℕ} 0 1 = cc in omega arith)
+
+pub err-some : (o : Option Refusal) (x : Refusal) → Err x ≡ answered o → o ≡ Some x
+err-some None x e = absurd (let z : _≡_ {A = ℕ} 0 1 = cc in omega arith)
+err-some (Some y) x e = cc
+
+pub refused-answer : {o : Option Refusal} {x : Refusal} → o ≡ Some x → Err x ≡ answered o
+refused-answer e = sym (ap answered e)
+
+or-itself : (o : Option Refusal) → or-else o None ≡ o
+or-itself None = refl
+or-itself (Some x) = refl
+
+module _ (sh : Sheet) where
+  abbrev Length-none : Type 0
+  Length-none = first (length-refused sh) 1 ≡ None
+
+  abbrev Records-none : Type 0
+  Records-none = first (record-refused sh) (count sh) ≡ None
+
+  abbrev Names-none : Type 0
+  Names-none = first (name-refused sh) (count sh + 1) ≡ None
+
+  pub length-told : {x : Refusal} → first (length-refused sh) 1 ≡ Some x → opening sh ≡ Some x
+  unfolding opening
+  length-told e = simp e
+
+  pub records-told : {x : Refusal} → Length-none → first (record-refused sh) (count sh) ≡ Some x → opening sh ≡ Some x
+  unfolding opening
+  records-told a e = simp (a, e)
+
+  pub names-told : {x : Refusal} → Length-none → Records-none → first (name-refused sh) (count sh + 1) ≡ Some x →
+      opening sh ≡ Some x
+  unfolding opening
+  names-told a b e = simp (a, b, e)
+
+  pub sense-told : {o : Option Refusal} → Length-none → Records-none → Names-none →
+      first (sense-refused sh) (count sh) ≡ o → opening sh ≡ o
+  unfolding opening
+  sense-told {o} a b c e = simp (a, b, c, e) (or-itself o)
+
+  pub none-sorting : Length-none → Records-none → sorting sh ≡ None
+  unfolding sorting
+  none-sorting a b = simp (a, b)

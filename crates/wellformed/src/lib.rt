@@ -23,5 +23,4 @@ pub fn holds_a_lawful_table()
 /// The practice sheet opens, and sheets near it are refused where they should be.
 pub fn cases_hold()
     ensures { λ _. ⌜ Cases-hold ⌝ }
-{
-}
+{}

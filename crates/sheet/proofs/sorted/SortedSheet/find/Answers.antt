@@ -21,10 +21,10 @@ returns-else-i-count c =
     let w = sorted-of (sheet (c .args .self .now .bytes .now)) (c .args .self .now .sorted) in
     let missed = search-misses _ w (c .args .letter) (c .args .a) (c .args .b) (c .args .c) _ (c .position-of-i .ensures) in
     elim (c .else-i-count .came) [
-      else-i-count·by·then-i-count·else-has-key v ↦
-        record {
-          value = sym (missed (λ lt. sym (v .if-has-key .ensures tt ∙ ap (has-key (c .args .letter) (c .args .a) (c .args .b) (c .args .c)) (v .record-of .ensures .value))));
-          within = tt;
-        }
-    | else-i-count·by·else-i-count v ↦ record { value = sym (missed (λ lt. absurd (omega arith))); within = tt }
+      | else-i-count·by·then-i-count·else-has-key v ↦
+          record {
+            value = sym (missed (λ lt. sym (v .if-has-key .ensures tt ∙ ap (has-key (c .args .letter) (c .args .a) (c .args .b) (c .args .c)) (v .record-of .ensures .value))));
+            within = tt;
+          }
+      | else-i-count·by·else-i-count v ↦ record { value = sym (missed (λ lt. absurd (omega arith))); within = tt }
     ]

@@ -10,7 +10,9 @@ pub seek-requires : need.seek-requires
 seek-requires c κs =
     let w = sorted-of (sheet (c .args .self .now .bytes .now)) (c .args .self .now .sorted) in
     let key-is : c .key-of-k .result ≡ key-of (code (c .args .letter)) (c .args .a) (c .args .b) (c .args .c) =
-      c .key-of-k .ensures ∙ ap (λ l. key-of l (c .args .a) (c .args .b) (c .args .c)) (c .code .ensures)
-    in
-    (w, search-range _ w (c .args .letter) (c .args .a) (c .args .b) (c .args .c) _ _ _ key-is
-      (c .index-of-at .ensures .value) (c .args .self .now .located) (omega arith) (omega arith) (omega arith))
+    c .key-of-k .ensures ∙ ap (λ l. key-of l (c .args .a) (c .args .b) (c .args .c)) (c .code .ensures)
+    in (
+      w,
+      search-range _ w (c .args .letter) (c .args .a) (c .args .b) (c .args .c) _ _ _ key-is
+          (c .index-of-at .ensures .value) (c .args .self .now .located) (omega arith) (omega arith) (omega arith),
+    )
