@@ -25,7 +25,8 @@ fn words(refusal: Refusal) -> &'static str {
         Refusal::Length => "no bytes, above 65,520, or no whole number of records",
         Refusal::Order { .. } => "the key of this record is not above the one before",
         Refusal::Range { .. } => "a byte of this record is out of range, or its set is empty",
-        Refusal::Absent { .. } => "this record names what is absent or leaves a gap, or a kind of record is missing",
+        Refusal::Absent { .. } =>
+            "this record names what is absent or leaves a gap, or a kind of record is missing",
         Refusal::Contradiction { .. } => "this record contradicts another",
         Refusal::Unsafe { .. } => "a reading could slip on this record",
         Refusal::Incomplete { .. } => "a reading could refuse a good plan by this record",
@@ -62,7 +63,10 @@ fn tell(rt: &LibcRuntime, name: &str, tally: &mut Tally) -> Result<(), AnyError>
 }
 
 fn main(rt: LibcRuntime) -> Result<(), AnyError> {
-    let mut tally = Tally { refused: false, unread: false };
+    let mut tally = Tally {
+        refused: false,
+        unread: false,
+    };
     let mut lenient = false;
     let mut files = 0u64;
     for arg in env::args(&rt)?.skip(1) {

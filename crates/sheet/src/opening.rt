@@ -1,7 +1,9 @@
 //! The opening of a sheet.
 ghost use mathlib.Core.Path.{_≡_};
+ghost use mathlib.Core.Bool.{false};
 ghost use Prim.Native.Nat.{ℕ, _≤_, _<_};
 ghost use lib.ListN.{length};
+ghost use Rattle.std.specs.Options.{isSome};
 ghost use Rattle.layout.specs.Choices.{first};
 ghost use Rattle.layout.specs.Records.{sheet, count as countOf};
 ghost use Rattle.layout.specs.Refusals.{answered, held};
@@ -85,14 +87,21 @@ fn inspect(bytes: &[u8]) -> Result<(), Refusal>
     sorted.check_sense()
 }
 
+fn raw_sheet<'a>(bytes: &'a [u8]) -> RawSheet<'a>
+    requires { ⌜ isSome (opening (sheet (now bytes))) ≡ false ⌝ }
+    ensures { λ r. ⌜ contents r ≡ now (bytes .entry) ⌝ }
+{
+    RawSheet {
+        sorted: sorted_sheet(bytes),
+    }
+}
+
 impl<'a> RawSheet<'a> {
     /// The practice sheet: something that a place can hold before another sheet is opened.
     pub fn practice() -> RawSheet<'a>
         ensures { λ r. ⌜ contents r ≡ practice-bytes ⌝ }
     {
-        RawSheet {
-            sorted: sorted_sheet(&PRACTICE),
-        }
+        raw_sheet(&PRACTICE)
     }
 
     /// Puts `bytes` into a place that holds a raw sheet, if they are one; else the place stays as it is.
@@ -101,9 +110,7 @@ impl<'a> RawSheet<'a> {
         ensures place { λ r. ⌜ contents (now (place .exit)) ≡ held r (now (bytes .entry)) (contents (now (place .entry))) ⌝ }
     {
         inspect(bytes)?;
-        *place = RawSheet {
-            sorted: sorted_sheet(bytes),
-        };
+        *place = raw_sheet(bytes);
         Ok(())
     }
 
@@ -117,6 +124,6 @@ impl<'a> RawSheet<'a> {
     pub fn records(&self) -> usize
         ensures { λ r. ⌜ r ≡ countOf (sheet (contents (now (self .entry)))) ⌝ }
     {
-        count(self.sorted.bytes)
+        count(self.bytes())
     }
 }

@@ -1,9 +1,13 @@
 //! One record of a sheet, as its 16 bytes: key, fields, payload.
 ghost use mathlib.Core.Path.{_≡_};
 ghost use Prim.Native.Nat.{ℕ, _+_, _*_, _≤_, _<_};
+ghost use mathlib.Core.Bool.{cond};
+ghost use lib.Dec.{ltb};
 ghost use lib.ListN.{length};
-ghost use Rattle.layout.specs.Records.{sixteen, sheet, count as countOf, record-at, letter-of as letterOf, key-of as keyOf, key as keyIn, payload as payloadIn, member as memberOf, symbol as symbolOf, maybe-symbol, action-in};
+ghost use Rattle.std.specs.declared.option.Option.the-variants.{Some, None};
+ghost use Rattle.layout.specs.Records.{sixteen, sheet, at, count as countOf, record-at, letter-of as letterOf, key-of as keyOf, key as keyIn, payload as payloadIn, member as memberOf, symbol as symbolOf, maybe-symbol, action-in};
 use layout::Letter;
+use syntax::Production;
 use syntax::Symbol;
 use table::Action;
 
@@ -106,5 +110,28 @@ pub(crate) fn action_of(row: &[u8]) -> Action
         1 => Action::Shift(row[5]),
         2 => Action::Reduce(row[5]),
         _ => Action::Accept,
+    }
+}
+
+/// Left side and length of a P record.
+pub(crate) fn production_of(row: &[u8]) -> Production
+    requires { ⌜ length (now row) ≡ 16 ⌝ }
+    ensures { λ r. ⌜ r ≡ record { left = at (now (row .entry)) 4; length = at (now (row .entry)) 5 } ⌝ }
+{
+    Production {
+        left: row[4],
+        length: row[5],
+    }
+}
+
+/// Symbol `k` of a P record, if it has so many.
+pub(crate) fn symbol_of(row: &[u8], k: u8) -> Option<Symbol>
+    requires { ⌜ length (now row) ≡ 16 ⌝ ∗ ⌜ at (now row) 5 ≤ 8 ⌝ }
+    ensures { λ r. ⌜ r ≡ cond (ltb k (at (now (row .entry)) 5)) (Some (symbolOf (at (now (row .entry)) (8 + k)))) None ⌝ }
+{
+    if k < row[5] {
+        Some(symbol(row[8 + k as usize]))
+    } else {
+        None
     }
 }

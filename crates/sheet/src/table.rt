@@ -12,8 +12,9 @@ ghost use Rattle.sheet.specs.Contents.{contents};
 use crate::raw::RawSheet;
 use crate::record::action_of;
 use crate::record::maybe_symbol;
+use crate::record::production_of;
 use crate::record::record_of;
-use crate::record::symbol;
+use crate::record::symbol_of;
 use layout::Letter;
 use syntax::Production;
 use syntax::Symbol;
@@ -46,27 +47,14 @@ pub impl<'a> Table for RawSheet<'a> as RawSheetTable {
     fn production(&self, p: u8) -> Option<Production> {
         match self.production_record(p) {
             None => None,
-            Some(i) => {
-                let row = record_of(self.sorted.bytes, i);
-                Some(Production {
-                    left: row[4],
-                    length: row[5],
-                })
-            }
+            Some(i) => Some(production_of(record_of(self.sorted.bytes, i))),
         }
     }
 
     fn right_symbol(&self, p: u8, k: u8) -> Option<Symbol> {
         match self.production_record(p) {
             None => None,
-            Some(i) => {
-                let row = record_of(self.sorted.bytes, i);
-                if k < row[5] {
-                    Some(symbol(row[8 + k as usize]))
-                } else {
-                    None
-                }
-            }
+            Some(i) => symbol_of(record_of(self.sorted.bytes, i), k),
         }
     }
 

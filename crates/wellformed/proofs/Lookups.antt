@@ -5,17 +5,17 @@ use mathlib.Core.Bool.{Bool, true, false, cond, _&&_}
 use mathlib.Core.Logic.{_⊎_, inl, inr, ⊎-elim}
 use Prim.Native.Nat.{ℕ, _+_, _*_, _≤_, _<_}
 use native.Mathlib.Omega.{arith}
-use lib.Dec.{T, eqb, eqb→eq, lit<}
+use lib.Dec.{T, ltb, eqb, eqb→eq, lit<}
 use lib.ListN.{length}
 use Rattle.std.proofs.shelf.Tests.{cases-lt, cases-bool}
 use Rattle.std.specs.declared.option.Option.{Option}
 use Rattle.std.specs.declared.option.Option.the-variants.{Some, None}
 use Rattle.syntax.specs.declared.Production.{Production}
-use Rattle.table.specs.Automaton.{head, symbol-at}
+use Rattle.table.specs.Automaton.{nth, head, symbol-at}
 use Rattle.table.specs.Hints.{added}
 use Rattle.layout.specs.declared.Letter.{Letter}
 use Rattle.layout.specs.declared.Letter.the-variants.{A, D, G, I, K, N, P, S}
-use Rattle.layout.specs.Choices.{given, mapped, some-below}
+use Rattle.layout.specs.Choices.{given, mapped, some-below, gather}
 use Rattle.layout.specs.Records.{sixteen, sheet, count, record-at, at, byte, code, key-of, key, symbol, rule-in}
 use Rattle.layout.specs.Meaning.{placed, automaton}
 use Rattle.layout.specs.Search.{position}
@@ -24,7 +24,7 @@ use Rattle.wellformed.specs.Formed.{InRangeOf, Sorted}
 use Rattle.wellformed.proofs.Tests.{T-and, and-T, eq-T, T-some}
 use Rattle.wellformed.proofs.Rows.{Row, Known, known, second, third, range-at, row-of, row-number}
 use Rattle.wellformed.proofs.Seeks.{Between, at-position}
-use Rattle.wellformed.proofs.Loops.{some-hit, nth-gather, nth-beyond}
+use Rattle.wellformed.proofs.Loops.{some-hit, nth-gather-or}
 use Rattle.wellformed.proofs.Lawful.{length-gather}
 
 -- the numbers of a key are bytes
@@ -125,12 +125,14 @@ module _ (bs : List ℕ) (p i : ℕ) (e : placed (sheet bs) P p 0 0 ≡ Some i) 
       ap {B = Option Production} (λ n. Some (record { left = byte (sheet bs) i 4; length = n })) (sym (length-gather _ _))
       ∙ sym (ap head rule-at)
 
-  pub symbol-there : (k : ℕ) → k < byte (sheet bs) i 5 →
-      Some (symbol (byte (sheet bs) i (8 + k))) ≡ symbol-at (automaton (sheet bs) .grammar p) k
-  symbol-there k lt = sym (ap (λ o. symbol-at o k) rule-at ∙ nth-gather _ _ k lt)
-
-  pub symbol-beyond : (k : ℕ) → byte (sheet bs) i 5 ≤ k → None ≡ symbol-at (automaton (sheet bs) .grammar p) k
-  symbol-beyond k le = sym (ap (λ o. symbol-at o k) rule-at ∙ nth-beyond _ _ k le)
+  pub symbol-in : (k : ℕ) →
+      cond (ltb k (byte (sheet bs) i 5)) (Some (symbol (byte (sheet bs) i (8 + k)))) None ≡ symbol-at (automaton (sheet bs) .grammar p) k
+  symbol-in k =
+      let there : nth (gather (byte (sheet bs) i 5) (λ k. symbol (byte (sheet bs) i (8 + k)))) k
+      ≡ cond (ltb k (byte (sheet bs) i 5)) (Some (symbol (byte (sheet bs) i (8 + k)))) None
+      = nth-gather-or _ _ k
+      in
+      sym (ap (λ o. symbol-at o k) rule-at ∙ there)
 
   pub short-production : Sorted (sheet bs) → byte (sheet bs) i 5 ≤ 8
   short-production w = let r = row-of (sheet bs) P p 0 0 i e in range-at (sheet bs) w P i (r .within) (r .is-0) .1 .1 .1 .1 .0

@@ -1,11 +1,12 @@
 -- The steps of a loop that tests the numbers below a bound, one by one.
 use mathlib.Core.Path.{_≡_, refl, sym, ap, subst, _∙_}
-use mathlib.Core.Bool.{Bool, true, false, _&&_, _||_}
+use mathlib.Core.Bool.{Bool, true, false, cond, _&&_, _||_}
 use mathlib.Core.Logic.{⊎-elim}
 use Prim.Native.Nat.{ℕ, zero, suc, _+_, _≤_, _<_}
 use native.Mathlib.Numerals.{add-one}
 use native.Mathlib.Omega.{arith}
-use Rattle.std.proofs.shelf.Tests.{cases-order}
+use lib.Dec.{ltb}
+use Rattle.std.proofs.shelf.Tests.{cases-order, cases-lt, lt-ltb, le-ltb}
 use Rattle.std.specs.declared.option.Option.the-variants.{Some, None}
 use Rattle.table.specs.Automaton.{nth}
 use Rattle.std.specs.declared.option.Option.{Option}
@@ -77,17 +78,24 @@ every-gather f zero g = refl
 every-gather f (suc n) g =
     ap (λ b. f (g 0) && b) (every-gather f n (λ k. g (suc k))) ∙ sym (below-shift n (λ k. f (g k)))
 
-pub nth-gather : {X : Type 0} (n : ℕ) (g : ℕ → X) (k : ℕ) → k < n → nth (gather n g) k ≡ Some (g k)
+nth-gather : {X : Type 0} (n : ℕ) (g : ℕ → X) (k : ℕ) → k < n → nth (gather n g) k ≡ Some (g k)
 unfolding gather
 nth-gather zero g k lt = absurd (omega arith)
 nth-gather (suc n) g zero lt = refl
 nth-gather (suc n) g (suc k) lt = nth-gather n (λ k. g (suc k)) k (omega arith)
 
-pub nth-beyond : {X : Type 0} (n : ℕ) (g : ℕ → X) (k : ℕ) → n ≤ k → nth (gather n g) k ≡ None
+nth-beyond : {X : Type 0} (n : ℕ) (g : ℕ → X) (k : ℕ) → n ≤ k → nth (gather n g) k ≡ None
 unfolding gather
 nth-beyond zero g k le = refl
 nth-beyond (suc n) g zero le = absurd (omega arith)
 nth-beyond (suc n) g (suc k) le = nth-beyond n (λ k. g (suc k)) k (omega arith)
+
+pub nth-gather-or : {X : Type 0} (n : ℕ) (g : ℕ → X) (k : ℕ) → nth (gather n g) k ≡ cond (ltb k n) (Some (g k)) None
+nth-gather-or n g k =
+    ⊎-elim
+    (λ (q : k < n). nth-gather n g k q ∙ sym (ap (λ b. cond b (Some (g k)) None) (lt-ltb k n q)))
+    (λ (q : n ≤ k). nth-beyond n g k q ∙ sym (ap (λ b. cond b (Some (g k)) None) (le-ltb k n q)))
+    (cases-lt k n)
 
 -- THE LOOP OF A PASS
 

@@ -1,13 +1,10 @@
-use mathlib.Core.Path.{_≡_, sym, subst}
-use mathlib.Core.Bool.{false}
-use Rattle.std.specs.Options.{isSome}
-use Rattle.layout.specs.Records.{sheet}
+use mathlib.Core.Path.{refl}
+use Rattle.layout.specs.Choices.{first, below, some-below, every, gather}
+use Rattle.layout.specs.Records.{count, record-at, key, payload, member}
+use Rattle.layout.specs.Meaning.{placed}
 use Rattle.layout.specs.Opening.{opening}
-use Rattle.wellformed.proofs.Practice.{practice-opens, practice-sorted}
 use Rattle.sheet.proofs.raw.RawSheet.practice.Needs as need
 
-pub sorted-sheet-requires : need.sorted-sheet-requires
-sorted-sheet-requires c κs = practice-sorted
-
-pub ghost-result : need.ghost-result
-ghost-result c = (subst (λ bs. isSome (opening (sheet bs)) ≡ false) (sym (c .sorted-sheet .ensures)) practice-opens, tt)
+pub raw-sheet-requires : need.raw-sheet-requires
+unfolding opening first below some-below every gather count record-at key payload member placed
+raw-sheet-requires c κs = refl

@@ -8,5 +8,6 @@ use Rattle.sheet.proofs.table.RawSheetTable.production.Needs as need
 
 pub returns-in-Some : need.returns-in-Some
 returns-in-Some c =
-    ap {B = Option Production} (λ r. Some (record { left = at r 4; length = at r 5 })) (c .record-of-row .ensures .value)
+    ap {B = Option Production} Some (c .production-of .ensures)
+    ∙ ap {B = Option Production} (λ r. Some (record { left = at r 4; length = at r 5 })) (c .record-of .ensures .value)
     ∙ head-at _ (c .args .p) (c .in-Some .i) (sym (c .in-Some .ensures tt .value))

@@ -1,30 +1,23 @@
 use mathlib.Core.Path.{_≡_, sym, ap, subst, _∙_}
-use Prim.Native.Nat.{ℕ, _+_, _≤_, _<_}
-use native.Mathlib.Omega.{arith}
+use mathlib.Core.List.{List}
+use mathlib.Core.Bool.{cond}
+use Prim.Native.Nat.{ℕ, _+_, _≤_}
+use lib.Dec.{ltb}
 use Rattle.std.specs.declared.option.Option.{Option}
-use Rattle.std.specs.declared.option.Option.the-variants.{Some}
+use Rattle.std.specs.declared.option.Option.the-variants.{Some, None}
 use Rattle.syntax.specs.declared.Symbol.{Symbol}
-use Rattle.layout.specs.Records.{sheet, at, byte, symbol}
+use Rattle.layout.specs.Records.{sheet, at, symbol}
 use Rattle.wellformed.proofs.Formed.{sorted-of}
-use Rattle.wellformed.proofs.Lookups.{symbol-there, symbol-beyond, short-production}
-use Rattle.sheet.specs.Contents.{contents}
+use Rattle.wellformed.proofs.Lookups.{symbol-in, short-production}
 use Rattle.sheet.proofs.table.RawSheetTable.right_symbol.Needs as need
 
-pub index-row-k : need.index-row-k
-index-row-k c =
-    let few = short-production (contents (c .args .self .now)) (c .args .p) (c .in-Some .i) (sym (c .in-Some .ensures tt .value)) (sorted-of _ (c .args .self .now .sorted .sorted)) in
-    let same = ap (λ r. at r 5) (c .record-of-row .ensures .value) in
-    omega (arith, c .record-of-row .ensures .width)
+pub symbol-of-requires : need.symbol-of-requires
+symbol-of-requires c κs =
+    let few = short-production _ (c .args .p) (c .in-Some .i) (sym (c .in-Some .ensures tt .value)) (sorted-of _ (c .args .self .now .sorted .sorted)) in
+    (c .record-of .ensures .width, subst (λ r. at r 5 ≤ 8) (sym (c .record-of .ensures .value)) few)
 
-pub returns-then-k-row : need.returns-then-k-row
-returns-then-k-row c =
-    let same = ap (λ r. at r 5) (c .record-of-row .ensures .value) in
-    let less : c .args .k < byte (sheet (contents (c .args .self .now))) (c .in-Some .i) 5 = omega arith in
-    ap {B = Option Symbol} Some (c .symbol .ensures ∙ ap (λ r. symbol (at r (8 + c .args .k))) (c .record-of-row .ensures .value))
-    ∙ symbol-there _ (c .args .p) (c .in-Some .i) (sym (c .in-Some .ensures tt .value)) (c .args .k) less
-
-pub returns-else-k-row : need.returns-else-k-row
-returns-else-k-row c =
-    let same = ap (λ r. at r 5) (c .record-of-row .ensures .value) in
-    let le : byte (sheet (contents (c .args .self .now))) (c .in-Some .i) 5 ≤ c .args .k = omega arith in
-    symbol-beyond _ (c .args .p) (c .in-Some .i) (sym (c .in-Some .ensures tt .value)) (c .args .k) le
+pub returns-in-Some : need.returns-in-Some
+returns-in-Some c =
+    let told : List ℕ → Option Symbol = λ r. cond (ltb (c .args .k) (at r 5)) (Some (symbol (at r (8 + c .args .k)))) None in
+    c .symbol-of .ensures ∙ ap told (c .record-of .ensures .value)
+    ∙ symbol-in _ (c .args .p) (c .in-Some .i) (sym (c .in-Some .ensures tt .value)) (c .args .k)
