@@ -5,4 +5,5 @@ pub mod Meaning
 pub mod Search
 pub mod Passes
 pub mod Opening
+pub mod Checking
 pub mod Practice
