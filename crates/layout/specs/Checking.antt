@@ -126,7 +126,8 @@ module _ (sh : Sheet) where
 
   -- some right side of nonterminal n passes f
   abbrev pub some-right : ℕ → (List Symbol → Bool) → Bool
-  some-right n f = some-below (count sh) (λ i. let y = f (rule-in (record-at sh i) .right) in cond (is-rule-of n i) y false)
+  some-right n f =
+      some-below (count sh) (λ i. let y = f (rule-in (record-at sh i) .right) in cond (is-rule-of n i) y false)
 
   -- nullable exactly where some right side is, and the first terminals are those of the right sides
   abbrev pub equations-hold : ℕ → Bool
@@ -162,7 +163,8 @@ module _ (sh : Sheet) where
 
   abbrev pub item-at : ℕ → ℕ → ℕ → Bool
   item-at s p d =
-      given false (λ α. item-complete s p d (hints sh .look-aheads s p d) (drop d α)) (right-side (automaton sh .grammar) p)
+      let looks = hints sh .look-aheads s p d in
+      given false (λ α. item-complete s p d looks (drop d α)) (right-side (automaton sh .grammar) p)
 
   abbrev pub complete-as : List ℕ → Letter → Bool
   complete-as r A = true
@@ -186,7 +188,8 @@ unsafe-refused sh i = unless (by-letter (record-at sh i) (safe-as sh (record-at 
 -- each record, and behind the last the initial item
 abbrev pub incomplete-refused : Sheet → ℕ → Option Refusal
 incomplete-refused sh i =
-    unless (cond (ltb i (count sh)) (by-letter (record-at sh i) (complete-as sh (record-at sh i))) (initial-item sh)) (Incomplete i)
+    let complete = by-letter (record-at sh i) (complete-as sh (record-at sh i)) in
+    unless (cond (ltb i (count sh)) complete (initial-item sh)) (Incomplete i)
 
 abbrev pub checking-passes : Sheet → List Pass
 checking-passes sh = pass (count sh) (unsafe-refused sh) ∷ pass (count sh + 1) (incomplete-refused sh) ∷ []

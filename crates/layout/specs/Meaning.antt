@@ -11,7 +11,8 @@ use Rattle.table.specs.Hints.{Hints, deepest}
 use Rattle.layout.specs.declared.Letter.{Letter}
 use Rattle.layout.specs.declared.Letter.the-variants.{A, D, G, I, K, N, P, S}
 use Rattle.layout.specs.Choices.{mapped, given, present, first, run}
-use Rattle.layout.specs.Records.{Sheet, count, record-at, byte, has-key, set-in, maybe-symbol, symbols, rule-in, action-in}
+use Rattle.layout.specs.Records.{Sheet, count, record-at, byte, has-key, set-in, maybe-symbol, symbols, rule-in}
+use Rattle.layout.specs.Records.{action-in}
 
 -- the place of the first record with a key
 unfoldable pub placed : Sheet → Letter → ℕ → ℕ → ℕ → Option ℕ

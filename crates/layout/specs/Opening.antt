@@ -17,7 +17,8 @@ use Rattle.layout.specs.declared.Letter.the-variants.{A, D, G, I, K, N, P, S}
 use Rattle.layout.specs.declared.Refusal.{Refusal}
 use Rattle.layout.specs.declared.Refusal.the-variants.{Length, Order, Range, Absent, Contradiction}
 use Rattle.layout.specs.Choices.{or-else, given, present, unless, implies, first, below, some-below, every}
-use Rattle.layout.specs.Records.{Format, Sheet, count, record-at, at, byte, code, letter, key, payload, set-in, no-symbol, maybe-symbol, symbols, action-in}
+use Rattle.layout.specs.Records.{Format, Sheet, count, record-at, at, byte, code, letter, key, payload, set-in}
+use Rattle.layout.specs.Records.{no-symbol, maybe-symbol, symbols, action-in}
 use Rattle.layout.specs.Meaning.{placed, automaton}
 use Rattle.layout.specs.Passes.{Pass, pass, told}
 
@@ -32,7 +33,8 @@ most-bytes = 65520
 
 abbrev pub length-fits : Sheet → Bool
 length-fits sh =
-    (not (eqb (length (sh .bytes)) 0) && eqb (length (sh .bytes) % sh .format .width) 0) && leb (length (sh .bytes)) most-bytes
+    (not (eqb (length (sh .bytes)) 0) && eqb (length (sh .bytes) % sh .format .width) 0)
+    && leb (length (sh .bytes)) most-bytes
 
 -- ORDER
 
@@ -157,11 +159,12 @@ names-fit sh r = by-letter r (λ l. no-gap sh r l && names-known sh r l)
 abbrev pub has-letter : Sheet → Letter → ℕ → Bool
 has-letter sh l i = eqb (byte sh i 0) (code l)
 
+abbrev pub has-kind : Sheet → Letter → Bool
+has-kind sh l = some-below (count sh) (has-letter sh l)
+
 -- there is a production, a state and a nonterminal
 abbrev pub has-all-kinds : Sheet → Bool
-has-all-kinds sh =
-    some-below (count sh) (has-letter sh P)
-    && (some-below (count sh) (has-letter sh S) && some-below (count sh) (has-letter sh N))
+has-all-kinds sh = has-kind sh P && (has-kind sh S && has-kind sh N)
 
 -- SENSE
 
@@ -186,6 +189,10 @@ action-makes-sense sh a Reject = true
 abbrev pub acts-in : Sheet → ℕ → ℕ → Bool
 acts-in sh s i = has-letter sh A i && eqb (byte sh i 1) s
 
+-- state s has an action
+abbrev pub acts : Sheet → ℕ → Bool
+acts sh s = some-below (count sh) (acts-in sh s)
+
 -- how many symbols stand in the right side of a production, or of the added one
 abbrev pub right-length : Sheet → ℕ → Option ℕ
 right-length sh p =
@@ -193,7 +200,7 @@ right-length sh p =
 
 abbrev pub makes-sense-as : Sheet → List ℕ → Letter → Bool
 makes-sense-as sh r A = action-makes-sense sh (at r 2) (action-in r)
-makes-sense-as sh r D = not (some-below (count sh) (acts-in sh (at r 1)))
+makes-sense-as sh r D = not (acts sh (at r 1))
 makes-sense-as sh r G = enters sh (Nonterminal (at r 2)) (at r 4)
 makes-sense-as sh r I = given false (leb (at r 3)) (right-length sh (at r 2))
 makes-sense-as sh r K = not (eqb (at r 1) 0)
@@ -213,7 +220,8 @@ length-refused sh i = unless (length-fits sh) Length
 
 -- order and then range, record by record
 abbrev pub record-refused : Sheet → ℕ → Option Refusal
-record-refused sh i = or-else (unless (in-order sh i) (Order i)) (unless (in-range (sh .format) (record-at sh i)) (Range i))
+record-refused sh i =
+    or-else (unless (in-order sh i) (Order i)) (unless (in-range (sh .format) (record-at sh i)) (Range i))
 
 -- the names of each record; behind the last, that there is a record of each kind that must be
 abbrev pub name-refused : Sheet → ℕ → Option Refusal
@@ -221,6 +229,19 @@ name-refused sh i = unless (cond (ltb i (count sh)) (names-fit sh (record-at sh 
 
 abbrev pub sense-refused : Sheet → ℕ → Option Refusal
 sense-refused sh i = unless (makes-sense sh (record-at sh i)) (Contradiction i)
+
+-- what each pass finds
+abbrev pub length-found : Sheet → Option Refusal
+length-found sh = first (length-refused sh) 1
+
+abbrev pub records-found : Sheet → Option Refusal
+records-found sh = first (record-refused sh) (count sh)
+
+abbrev pub names-found : Sheet → Option Refusal
+names-found sh = first (name-refused sh) (count sh + 1)
+
+abbrev pub sense-found : Sheet → Option Refusal
+sense-found sh = first (sense-refused sh) (count sh)
 
 -- records one by one, and then records with each other
 abbrev pub sorting-passes : Sheet → List Pass

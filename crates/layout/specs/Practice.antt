@@ -65,9 +65,12 @@ states =
     row S 0 0 0 255 0 no-symbols ++ row S 1 0 0 64 0 no-symbols
     ++ row S 2 0 0 1 1 (64 ∷ 255 ∷ 255 ∷ 255 ∷ 255 ∷ 255 ∷ 255 ∷ 255 ∷ [])
 
+abbrev pub grammar : List ℕ
+grammar = joined (nonterminal 0 1 2 ∷ productions ∷ states ∷ [])
+
 abbrev pub practice-bytes : List ℕ
 practice-bytes =
-    joined (actions ∷ default 0 0 ∷ default 2 1 ∷ goto 0 0 1 ∷ items ∷ pasts ∷ nonterminal 0 1 2 ∷ productions ∷ states ∷ [])
+    joined (actions ∷ default 0 0 ∷ default 2 1 ∷ goto 0 0 1 ∷ items ∷ pasts ∷ grammar ∷ [])
 
 -- bytes, and what opening refuses of them
 pub record Case : Type 0 where
@@ -90,7 +93,9 @@ cases =
     -- a nonterminal and a state, and no production
     ∷ case (nonterminal 0 0 0 ++ row S 0 0 0 255 0 no-symbols) (Some (Absent 2))
     -- a default beside actions
-    ∷ case (joined (actions ∷ default 0 0 ∷ default 1 0 ∷ default 2 1 ∷ goto 0 0 1 ∷ items ∷ pasts ∷ nonterminal 0 1 2 ∷ productions ∷ states ∷ [])) (Some (Contradiction 3))
+    ∷ case
+    (joined (actions ∷ default 0 0 ∷ default 1 0 ∷ default 2 1 ∷ goto 0 0 1 ∷ items ∷ pasts ∷ grammar ∷ []))
+    (Some (Contradiction 3))
     ∷ []
 
 abbrev pub All-hold : List Case → Type 0

@@ -5,7 +5,8 @@ use Rattle.std.specs.declared.option.Option.the-variants.{Some, None}
 use Rattle.std.specs.declared.result.Result.{Result}
 use Rattle.std.specs.declared.result.Result.the-variants.{Ok, Err}
 use Rattle.layout.specs.declared.Refusal.{Refusal}
-use Rattle.layout.specs.declared.Refusal.the-variants.{Length, Order, Range, Absent, Contradiction, Unsafe, Incomplete}
+use Rattle.layout.specs.declared.Refusal.the-variants.{Length, Order, Range, Absent, Contradiction, Unsafe}
+use Rattle.layout.specs.declared.Refusal.the-variants.{Incomplete}
 
 abbrev pub number : Refusal → ℕ
 number Length = 1

@@ -22,7 +22,8 @@ start sh l = position sh (key-of (code l) 0 0 0)
 -- where the records of each letter begin, and where the last ones end
 abbrev pub starts : Sheet → List ℕ
 starts sh =
-    start sh A ∷ start sh D ∷ start sh G ∷ start sh I ∷ start sh K ∷ start sh N ∷ start sh P ∷ start sh S ∷ count sh ∷ []
+    start sh A ∷ start sh D ∷ start sh G ∷ start sh I ∷ start sh K ∷ start sh N ∷ start sh P ∷ start sh S
+    ∷ count sh ∷ []
 
 -- the place of a letter in this list
 abbrev pub index-of : Letter → ℕ

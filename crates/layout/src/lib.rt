@@ -23,7 +23,8 @@ pub enum Letter {
     S,
 }
 
-/// Why a sheet is refused, with the record that shows it: the one at fault, or the number of records where one is missing.
+/// Why a sheet is refused, with the record that shows it: the one at fault, or the number of records where one is
+/// missing.
 #[derive(Clone, Copy, PartialEq, Eq, Debug)]
 pub enum Refusal {
     /// No bytes, too many, or no whole number of records.

@@ -4,12 +4,17 @@ ghost use mathlib.Core.Bool.{true, false};
 ghost use Prim.Native.Nat.{ℕ, _+_, _≤_, _<_};
 ghost use lib.Dec.{leb};
 ghost use lib.ListN.{length};
-ghost use Rattle.layout.specs.Choices.{given, implies, every, first, some-below};
-ghost use Rattle.layout.specs.Records.{sixteen, sheet, count as countOf, record-at, maybe-symbol, symbols, member as memberOf, action-in};
+ghost use Rattle.layout.specs.Choices.{given, implies, every};
+ghost use Rattle.layout.specs.Records.{sixteen, sheet, count as countOf, record-at, maybe-symbol, symbols};
+ghost use Rattle.layout.specs.Records.{member as memberOf, action-in};
 ghost use Rattle.layout.specs.Meaning.{placed, automaton};
 ghost use Rattle.layout.specs.Refusals.{answered};
-ghost use Rattle.layout.specs.Opening.{has-state, has-production, has-nonterminal, has-symbol, has-target, has-states, no-gap, names-known, names-fit, has-letter, has-all-kinds, same-symbol, enters as entersOf, action-makes-sense, acts-in, right-length, makes-sense-as, makes-sense, name-refused, sense-refused};
+ghost use Rattle.layout.specs.Opening.{has-state, has-production, has-nonterminal, has-symbol, has-target};
+ghost use Rattle.layout.specs.Opening.{has-states, no-gap, names-known, names-fit, has-letter, has-kind, has-all-kinds};
+ghost use Rattle.layout.specs.Opening.{same-symbol, enters as entersOf, action-makes-sense, acts-in, acts as actsOf, right-length};
+ghost use Rattle.layout.specs.Opening.{makes-sense-as, makes-sense, names-found, sense-found};
 ghost use Rattle.sheet.specs.Rows.{Short};
+ghost use Rattle.sheet.specs.Contents.{sheet-in};
 use crate::record::NO_SYMBOL;
 use crate::record::action_of;
 use crate::record::letter_of;
@@ -30,25 +35,25 @@ const ADDED: u8 = 254;
 
 impl<'a> SortedSheet<'a> {
     fn has_state(&self, s: u8) -> bool
-        ensures { λ r. ⌜ r ≡ has-state (sheet (now (self .entry) .bytes .now)) s ⌝ }
+        ensures { λ r. ⌜ r ≡ has-state (sheet-in (now (self .entry))) s ⌝ }
     {
         self.find(Letter::S, s, 0, 0).is_some()
     }
 
     fn has_production(&self, p: u8) -> bool
-        ensures { λ r. ⌜ r ≡ has-production (sheet (now (self .entry) .bytes .now)) p ⌝ }
+        ensures { λ r. ⌜ r ≡ has-production (sheet-in (now (self .entry))) p ⌝ }
     {
         self.find(Letter::P, p, 0, 0).is_some()
     }
 
     fn has_nonterminal(&self, n: u8) -> bool
-        ensures { λ r. ⌜ r ≡ has-nonterminal (sheet (now (self .entry) .bytes .now)) n ⌝ }
+        ensures { λ r. ⌜ r ≡ has-nonterminal (sheet-in (now (self .entry))) n ⌝ }
     {
         self.find(Letter::N, n, 0, 0).is_some()
     }
 
     fn has_symbol(&self, symbol: Symbol) -> bool
-        ensures { λ r. ⌜ r ≡ has-symbol (sheet (now (self .entry) .bytes .now)) symbol ⌝ }
+        ensures { λ r. ⌜ r ≡ has-symbol (sheet-in (now (self .entry))) symbol ⌝ }
     {
         match symbol {
             Symbol::Terminal(_) => true,
@@ -57,7 +62,7 @@ impl<'a> SortedSheet<'a> {
     }
 
     fn has_target(&self, action: Action) -> bool
-        ensures { λ r. ⌜ r ≡ has-target (sheet (now (self .entry) .bytes .now)) action ⌝ }
+        ensures { λ r. ⌜ r ≡ has-target (sheet-in (now (self .entry))) action ⌝ }
     {
         match action {
             Action::Shift(t) => self.has_state(t),
@@ -70,7 +75,7 @@ impl<'a> SortedSheet<'a> {
     /// The first `n` symbols of a payload.
     fn has_symbols(&self, row: &[u8], n: usize) -> bool
         requires { ⌜ length (now row) ≡ 16 ⌝ ∗ ⌜ n ≤ 8 ⌝ }
-        ensures { λ r. ⌜ r ≡ every (has-symbol (sheet (now (self .entry) .bytes .now))) (symbols (now (row .entry)) n) ⌝ }
+        ensures { λ r. ⌜ r ≡ every (has-symbol (sheet-in (now (self .entry)))) (symbols (now (row .entry)) n) ⌝ }
     {
         for k in 0..n {
             if !self.has_symbol(symbol(row[8 + k])) {
@@ -83,7 +88,7 @@ impl<'a> SortedSheet<'a> {
     /// Every state of the set in a payload.
     fn has_states(&self, row: &[u8]) -> bool
         requires { ⌜ length (now row) ≡ 16 ⌝ }
-        ensures { λ r. ⌜ r ≡ has-states (sheet (now (self .entry) .bytes .now)) (now (row .entry)) ⌝ }
+        ensures { λ r. ⌜ r ≡ has-states (sheet-in (now (self .entry))) (now (row .entry)) ⌝ }
     {
         let set = payload(row);
         for s in 0..64u8 {
@@ -95,7 +100,7 @@ impl<'a> SortedSheet<'a> {
     }
 
     fn has_if_member(&self, set: u64, s: u8) -> bool
-        ensures { λ r. ⌜ r ≡ implies (memberOf sixteen set s) (has-state (sheet (now (self .entry) .bytes .now)) s) ⌝ }
+        ensures { λ r. ⌜ r ≡ implies (memberOf sixteen set s) (has-state (sheet-in (now (self .entry))) s) ⌝ }
     {
         !member(set, s) || self.has_state(s)
     }
@@ -103,7 +108,7 @@ impl<'a> SortedSheet<'a> {
     /// Numbers from 0 without a gap: the one before has its record too.
     fn no_gap(&self, row: &[u8], letter: Letter) -> bool
         requires { ⌜ length (now row) ≡ 16 ⌝ }
-        ensures { λ r. ⌜ r ≡ no-gap (sheet (now (self .entry) .bytes .now)) (now (row .entry)) letter ⌝ }
+        ensures { λ r. ⌜ r ≡ no-gap (sheet-in (now (self .entry))) (now (row .entry)) letter ⌝ }
     {
         match letter {
             Letter::A | Letter::D | Letter::G | Letter::I => true,
@@ -117,7 +122,7 @@ impl<'a> SortedSheet<'a> {
     /// What a record names has its own record.
     fn names_known(&self, row: &[u8], letter: Letter) -> bool
         requires { ⌜ length (now row) ≡ 16 ⌝ ∗ ⌜ Short letter (now row) ⌝ }
-        ensures { λ r. ⌜ r ≡ names-known (sheet (now (self .entry) .bytes .now)) (now (row .entry)) letter ⌝ }
+        ensures { λ r. ⌜ r ≡ names-known (sheet-in (now (self .entry))) (now (row .entry)) letter ⌝ }
     {
         match letter {
             Letter::A => self.has_state(row[1]) && self.has_target(action_of(row)),
@@ -133,7 +138,7 @@ impl<'a> SortedSheet<'a> {
     }
 
     fn enters_known(&self, b: u8) -> bool
-        ensures { λ r. ⌜ r ≡ given true (has-symbol (sheet (now (self .entry) .bytes .now))) (maybe-symbol b) ⌝ }
+        ensures { λ r. ⌜ r ≡ given true (has-symbol (sheet-in (now (self .entry)))) (maybe-symbol b) ⌝ }
     {
         match maybe_symbol(b) {
             None => true,
@@ -142,8 +147,8 @@ impl<'a> SortedSheet<'a> {
     }
 
     fn names_fit(&self, i: usize) -> bool
-        requires { ⌜ i < countOf (sheet (now self .bytes .now)) ⌝ }
-        ensures { λ r. ⌜ r ≡ names-fit (sheet (now (self .entry) .bytes .now)) (record-at (sheet (now (self .entry) .bytes .now)) i) ⌝ }
+        requires { ⌜ i < countOf (sheet-in (now self)) ⌝ }
+        ensures { λ r. ⌜ r ≡ names-fit (sheet-in (now (self .entry))) (record-at (sheet-in (now (self .entry))) i) ⌝ }
     {
         let row = record_of(self.bytes, i);
         match letter_of(row[0]) {
@@ -153,7 +158,7 @@ impl<'a> SortedSheet<'a> {
     }
 
     fn has_letter(&self, letter: Letter) -> bool
-        ensures { λ r. ⌜ r ≡ some-below (countOf (sheet (now (self .entry) .bytes .now))) (has-letter (sheet (now (self .entry) .bytes .now)) letter) ⌝ }
+        ensures { λ r. ⌜ r ≡ has-kind (sheet-in (now (self .entry))) letter ⌝ }
     {
         for i in 0..count(self.bytes) {
             if self.begins(i, letter) {
@@ -164,21 +169,21 @@ impl<'a> SortedSheet<'a> {
     }
 
     fn begins(&self, i: usize, letter: Letter) -> bool
-        requires { ⌜ i < countOf (sheet (now self .bytes .now)) ⌝ }
-        ensures { λ r. ⌜ r ≡ has-letter (sheet (now (self .entry) .bytes .now)) letter i ⌝ }
+        requires { ⌜ i < countOf (sheet-in (now self)) ⌝ }
+        ensures { λ r. ⌜ r ≡ has-letter (sheet-in (now (self .entry))) letter i ⌝ }
     {
         record_of(self.bytes, i)[0] == code(letter)
     }
 
     fn has_all_kinds(&self) -> bool
-        ensures { λ r. ⌜ r ≡ has-all-kinds (sheet (now (self .entry) .bytes .now)) ⌝ }
+        ensures { λ r. ⌜ r ≡ has-all-kinds (sheet-in (now (self .entry))) ⌝ }
     {
         self.has_letter(Letter::P) && (self.has_letter(Letter::S) && self.has_letter(Letter::N))
     }
 
     /// Every named thing is there, without a gap.
     pub(crate) fn check_names(&self) -> Result<(), Refusal>
-        ensures { λ r. ⌜ r ≡ answered (first (name-refused (sheet (now (self .entry) .bytes .now))) (countOf (sheet (now (self .entry) .bytes .now)) + 1)) ⌝ }
+        ensures { λ r. ⌜ r ≡ answered (names-found (sheet-in (now (self .entry)))) ⌝ }
     {
         let n = count(self.bytes);
         for i in 0..n {
@@ -194,7 +199,7 @@ impl<'a> SortedSheet<'a> {
 
     /// The symbol that enters a state.
     fn incoming(&self, s: u8) -> Option<Symbol>
-        ensures { λ r. ⌜ r ≡ automaton (sheet (now (self .entry) .bytes .now)) .incoming s ⌝ }
+        ensures { λ r. ⌜ r ≡ automaton (sheet-in (now (self .entry))) .incoming s ⌝ }
     {
         match self.find(Letter::S, s, 0, 0) {
             None => None,
@@ -203,7 +208,7 @@ impl<'a> SortedSheet<'a> {
     }
 
     fn enters(&self, symbol: Symbol, t: u8) -> bool
-        ensures { λ r. ⌜ r ≡ entersOf (sheet (now (self .entry) .bytes .now)) symbol t ⌝ }
+        ensures { λ r. ⌜ r ≡ entersOf (sheet-in (now (self .entry))) symbol t ⌝ }
     {
         match self.incoming(t) {
             None => false,
@@ -213,7 +218,7 @@ impl<'a> SortedSheet<'a> {
 
     /// No shift on END, accept on END alone, and a shift leads where its terminal enters.
     fn action_makes_sense(&self, a: u8, action: Action) -> bool
-        ensures { λ r. ⌜ r ≡ action-makes-sense (sheet (now (self .entry) .bytes .now)) a action ⌝ }
+        ensures { λ r. ⌜ r ≡ action-makes-sense (sheet-in (now (self .entry))) a action ⌝ }
     {
         match action {
             Action::Shift(t) => a != 0 && self.enters(Symbol::Terminal(a), t),
@@ -224,15 +229,15 @@ impl<'a> SortedSheet<'a> {
 
     /// State `s` has an action: where its first one would stand there is one.
     fn acts(&self, s: u8) -> bool
-        ensures { λ r. ⌜ r ≡ some-below (countOf (sheet (now (self .entry) .bytes .now))) (acts-in (sheet (now (self .entry) .bytes .now)) s) ⌝ }
+        ensures { λ r. ⌜ r ≡ actsOf (sheet-in (now (self .entry))) s ⌝ }
     {
         let i = self.position_of(Letter::A, s, 0, 0);
         i < count(self.bytes) && self.acts_at(i, s)
     }
 
     fn acts_at(&self, i: usize, s: u8) -> bool
-        requires { ⌜ i < countOf (sheet (now self .bytes .now)) ⌝ }
-        ensures { λ r. ⌜ r ≡ acts-in (sheet (now (self .entry) .bytes .now)) s i ⌝ }
+        requires { ⌜ i < countOf (sheet-in (now self)) ⌝ }
+        ensures { λ r. ⌜ r ≡ acts-in (sheet-in (now (self .entry))) s i ⌝ }
     {
         let row = record_of(self.bytes, i);
         row[0] == b'A' && row[1] == s
@@ -240,7 +245,7 @@ impl<'a> SortedSheet<'a> {
 
     /// How many symbols a right side has.
     fn right_length(&self, p: u8) -> Option<u8>
-        ensures { λ r. ⌜ r ≡ right-length (sheet (now (self .entry) .bytes .now)) p ⌝ }
+        ensures { λ r. ⌜ r ≡ right-length (sheet-in (now (self .entry))) p ⌝ }
     {
         if p == ADDED {
             return Some(1);
@@ -252,7 +257,7 @@ impl<'a> SortedSheet<'a> {
     }
 
     fn dot_fits(&self, p: u8, dot: u8) -> bool
-        ensures { λ r. ⌜ r ≡ given false (leb dot) (right-length (sheet (now (self .entry) .bytes .now)) p) ⌝ }
+        ensures { λ r. ⌜ r ≡ given false (leb dot) (right-length (sheet-in (now (self .entry))) p) ⌝ }
     {
         match self.right_length(p) {
             None => false,
@@ -262,7 +267,7 @@ impl<'a> SortedSheet<'a> {
 
     fn makes_sense_as(&self, row: &[u8], letter: Letter) -> bool
         requires { ⌜ length (now row) ≡ 16 ⌝ }
-        ensures { λ r. ⌜ r ≡ makes-sense-as (sheet (now (self .entry) .bytes .now)) (now (row .entry)) letter ⌝ }
+        ensures { λ r. ⌜ r ≡ makes-sense-as (sheet-in (now (self .entry))) (now (row .entry)) letter ⌝ }
     {
         match letter {
             Letter::A => self.action_makes_sense(row[2], action_of(row)),
@@ -282,8 +287,8 @@ impl<'a> SortedSheet<'a> {
     }
 
     fn makes_sense(&self, i: usize) -> bool
-        requires { ⌜ i < countOf (sheet (now self .bytes .now)) ⌝ }
-        ensures { λ r. ⌜ r ≡ makes-sense (sheet (now (self .entry) .bytes .now)) (record-at (sheet (now (self .entry) .bytes .now)) i) ⌝ }
+        requires { ⌜ i < countOf (sheet-in (now self)) ⌝ }
+        ensures { λ r. ⌜ r ≡ makes-sense (sheet-in (now (self .entry))) (record-at (sheet-in (now (self .entry))) i) ⌝ }
     {
         let row = record_of(self.bytes, i);
         match letter_of(row[0]) {
@@ -294,7 +299,7 @@ impl<'a> SortedSheet<'a> {
 
     /// No two records contradict each other.
     pub(crate) fn check_sense(&self) -> Result<(), Refusal>
-        ensures { λ r. ⌜ r ≡ answered (first (sense-refused (sheet (now (self .entry) .bytes .now))) (countOf (sheet (now (self .entry) .bytes .now)))) ⌝ }
+        ensures { λ r. ⌜ r ≡ answered (sense-found (sheet-in (now (self .entry)))) ⌝ }
     {
         for i in 0..count(self.bytes) {
             if !self.makes_sense(i) {

@@ -4,11 +4,10 @@ ghost use mathlib.Core.Bool.{false};
 ghost use Prim.Native.Nat.{ℕ, _≤_, _<_};
 ghost use lib.ListN.{length};
 ghost use Rattle.std.specs.Options.{isSome};
-ghost use Rattle.layout.specs.Choices.{first};
 ghost use Rattle.layout.specs.Records.{sheet, count as countOf};
 ghost use Rattle.layout.specs.Refusals.{answered, held};
 ghost use Rattle.layout.specs.Practice.{practice-bytes};
-ghost use Rattle.layout.specs.Opening.{in-order as inOrder, length-fits, length-refused, record-refused, opening};
+ghost use Rattle.layout.specs.Opening.{in-order as inOrder, length-fits, length-found, records-found, opening};
 ghost use Rattle.wellformed.specs.Formed.{Sorted};
 ghost use Rattle.sheet.specs.Contents.{contents};
 use crate::practice::PRACTICE;
@@ -33,7 +32,7 @@ fn length_fits(bytes: &[u8]) -> bool
 }
 
 fn check_length(bytes: &[u8]) -> Result<(), Refusal>
-    ensures { λ r. ⌜ r ≡ answered (first (length-refused (sheet (now (bytes .entry)))) 1) ⌝ }
+    ensures { λ r. ⌜ r ≡ answered (length-found (sheet (now (bytes .entry)))) ⌝ }
 {
     if length_fits(bytes) {
         Ok(())
@@ -53,7 +52,7 @@ fn in_order(bytes: &[u8], i: usize) -> bool
 /// Order and range, record by record.
 fn check_records(bytes: &[u8]) -> Result<(), Refusal>
     requires { ⌜ length (now bytes) ≤ 65520 ⌝ }
-    ensures { λ r. ⌜ r ≡ answered (first (record-refused (sheet (now (bytes .entry)))) (countOf (sheet (now (bytes .entry))))) ⌝ }
+    ensures { λ r. ⌜ r ≡ answered (records-found (sheet (now (bytes .entry)))) ⌝ }
 {
     for i in 0..count(bytes) {
         if !in_order(bytes, i) {
@@ -107,7 +106,8 @@ impl<'a> RawSheet<'a> {
     /// Puts `bytes` into a place that holds a raw sheet, if they are one; else the place stays as it is.
     pub fn open(place: &mut RawSheet<'a>, bytes: &'a [u8]) -> Result<(), Refusal>
         ensures answer { λ r. ⌜ r ≡ answered (opening (sheet (now (bytes .entry)))) ⌝ }
-        ensures place { λ r. ⌜ contents (now (place .exit)) ≡ held r (now (bytes .entry)) (contents (now (place .entry))) ⌝ }
+        ensures place { λ r. ⌜
+            contents (now (place .exit)) ≡ held r (now (bytes .entry)) (contents (now (place .entry))) ⌝ }
     {
         inspect(bytes)?;
         *place = raw_sheet(bytes);

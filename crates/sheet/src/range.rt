@@ -6,7 +6,8 @@ ghost use Rattle.layout.specs.declared.Letter.the-variants.{A as Act, D, G, I, 
 ghost use lib.Dec.{eqb};
 ghost use Rattle.layout.specs.Choices.{below};
 ghost use Rattle.layout.specs.Records.{sixteen, at};
-ghost use Rattle.layout.specs.Opening.{in-range, in-range-of, unused as unusedIn, symbol-byte, symbol-bytes, action-bytes};
+ghost use Rattle.layout.specs.Opening.{in-range, in-range-of, unused as unusedIn, symbol-byte, symbol-bytes};
+ghost use Rattle.layout.specs.Opening.{action-bytes};
 use crate::record::NO_SYMBOL;
 use crate::record::letter_of;
 use crate::record::payload;

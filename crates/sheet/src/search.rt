@@ -4,11 +4,14 @@ ghost use Prim.Native.Nat.{ℕ, _≤_, _<_};
 ghost use lib.ListN.{length};
 ghost use Rattle.std.specs.Options.{Cases};
 ghost use Rattle.layout.specs.declared.Letter.{Letter};
-ghost use Rattle.layout.specs.Records.{sheet, count as countOf, record-at, code as codeOf, key-of as keyOf, has-key as hasKey};
+ghost use Rattle.layout.specs.Records.{sheet, count as countOf, record-at, code as codeOf, key-of as keyOf};
+ghost use Rattle.layout.specs.Records.{has-key as hasKey};
 ghost use Rattle.layout.specs.Meaning.{placed};
-ghost use Rattle.layout.specs.Search.{position, start as startOf, starts as startsOf, index-of as indexOf, by-number as byNumber};
+ghost use Rattle.layout.specs.Search.{position, start as startOf, starts as startsOf, index-of as indexOf};
+ghost use Rattle.layout.specs.Search.{by-number as byNumber};
 ghost use Rattle.wellformed.specs.Formed.{Sorted};
 ghost use Rattle.wellformed.proofs.Seeks.{Between};
+ghost use Rattle.sheet.specs.Contents.{sheet-in};
 use crate::record::WIDTH;
 use crate::record::key;
 use crate::record::key_of;
@@ -107,7 +110,7 @@ fn has_key(row: &[u8], letter: Letter, a: u8, b: u8, c: u8) -> bool
 impl<'a> SortedSheet<'a> {
     /// The first record of which the key is not below this one.
     pub(crate) fn position_of(&self, letter: Letter, a: u8, b: u8, c: u8) -> usize
-        ensures { λ r. ⌜ r ≡ position (sheet (now (self .entry) .bytes .now)) (keyOf (codeOf letter) a b c) ⌝ }
+        ensures { λ r. ⌜ r ≡ position (sheet-in (now (self .entry))) (keyOf (codeOf letter) a b c) ⌝ }
     {
         let at = index_of(letter);
         let k = key_of(code(letter), a, b, c);
@@ -121,8 +124,8 @@ impl<'a> SortedSheet<'a> {
 
     /// The record with a key.
     pub(crate) fn find(&self, letter: Letter, a: u8, b: u8, c: u8) -> Option<usize>
-        ensures value { λ r. ⌜ r ≡ placed (sheet (now (self .entry) .bytes .now)) letter a b c ⌝ }
-        ensures within { λ r. ⌜ Cases r (Unit {0}) (λ i. i < countOf (sheet (now (self .entry) .bytes .now))) ⌝ }
+        ensures value { λ r. ⌜ r ≡ placed (sheet-in (now (self .entry))) letter a b c ⌝ }
+        ensures within { λ r. ⌜ Cases r (Unit {0}) (λ i. i < countOf (sheet-in (now (self .entry)))) ⌝ }
     {
         let i = self.position_of(letter, a, b, c);
         if i < count(self.bytes) && has_key(record_of(self.bytes, i), letter, a, b, c) {
@@ -134,7 +137,7 @@ impl<'a> SortedSheet<'a> {
 
     /// The record `n` behind the begin of a letter, if it comes before the end.
     pub(crate) fn by_number(&self, letter: Letter, n: u8) -> Option<usize>
-        ensures { λ r. ⌜ r ≡ byNumber (startsOf (sheet (now (self .entry) .bytes .now))) (indexOf letter) n ⌝ }
+        ensures { λ r. ⌜ r ≡ byNumber (startsOf (sheet-in (now (self .entry)))) (indexOf letter) n ⌝ }
     {
         let at = index_of(letter);
         let i = self.starts[at] as usize + n as usize;

@@ -15,8 +15,8 @@ pub enum Action {
     Reject,
 }
 
-/// A grammar and its automaton. A question answers its part of the meaning and changes nothing; out of range the answer is
-/// `None`, and of an action `Reject`.
+/// A grammar and its automaton. A question answers its part of the meaning and changes nothing; out of range the answer
+/// is `None`, and of an action `Reject`.
 pub trait Table {
     ghost meaning: { Self → Automaton };
 

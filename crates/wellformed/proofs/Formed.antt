@@ -21,13 +21,22 @@ use Rattle.layout.specs.declared.Letter.{Letter}
 use Rattle.layout.specs.declared.Letter.the-variants.{A, D, G, I, K, N, P, S}
 use Rattle.layout.specs.declared.Refusal.the-variants.{Length, Order, Range, Absent, Contradiction}
 use Rattle.layout.specs.Choices.{present, unless, first, below, some-below}
-use Rattle.layout.specs.Records.{Format, Sheet, sheet, count, record-at, at, byte, code, key, payload, set-in, no-symbol, maybe-symbol, symbols, action-in}
+use Rattle.layout.specs.Records.{Format, Sheet, sheet, count, record-at, at, byte, code, key, payload, set-in}
+use Rattle.layout.specs.Records.{no-symbol, maybe-symbol, symbols, action-in}
 use Rattle.layout.specs.Meaning.{placed, automaton}
-use Rattle.layout.specs.Opening.{most-bytes, length-fits, in-order, in-range, in-range-of, unused, symbol-byte, symbol-bytes, action-bytes, has-symbol, has-target, no-gap, names-known, names-fit, has-letter, has-all-kinds, action-makes-sense, acts-in, right-length, makes-sense-as, makes-sense, length-refused, record-refused, sorting, sorting-passes, naming-passes, opening, opening-passes}
-use Rattle.wellformed.specs.Formed.{LengthFits, Unused, SymbolByte, SymbolBytes, ActionBytes, InRangeOf, Has, HasSymbol, HasTarget, NoGap, NamesKnown, SomeRecord, ActionMakesSense, MakesSenseAs, ByLetter, Sorted, Formed, Sorts-exactly-sorted, Opens-exactly-formed}
+use Rattle.layout.specs.Opening.{most-bytes, length-fits, in-order, in-range, in-range-of, unused, symbol-byte}
+use Rattle.layout.specs.Opening.{symbol-bytes, action-bytes, has-symbol, has-target, no-gap, names-known, names-fit}
+use Rattle.layout.specs.Opening.{has-letter, has-all-kinds, action-makes-sense, acts-in, right-length, makes-sense-as}
+use Rattle.layout.specs.Opening.{makes-sense, length-refused, record-refused, sorting, sorting-passes, naming-passes}
+use Rattle.layout.specs.Opening.{opening, opening-passes}
+use Rattle.wellformed.specs.Formed.{LengthFits, Unused, SymbolByte, SymbolBytes, ActionBytes, InRangeOf, Has}
+use Rattle.wellformed.specs.Formed.{HasSymbol, HasTarget, NoGap, NamesKnown, SomeRecord, ActionMakesSense}
+use Rattle.wellformed.specs.Formed.{MakesSenseAs, ByLetter, Sorted, Formed, Sorts-exactly-sorted}
+use Rattle.wellformed.specs.Formed.{Opens-exactly-formed}
 use Rattle.wellformed.specs.Told.{AllClean}
 use Rattle.wellformed.proofs.Tests.{T-unless, unless-T, or-none, none-or}
-use Rattle.wellformed.proofs.Says.{Says, always, both, either, never, if-so, split, less, at-most, equal, all-below, one-below, each, there, if-any, there-is, is-symbol}
+use Rattle.wellformed.proofs.Says.{Says, always, both, either, never, if-so, split, less, at-most, equal, all-below}
+use Rattle.wellformed.proofs.Says.{one-below, each, there, if-any, there-is, is-symbol}
 use Rattle.wellformed.proofs.Rows.{says-by-letter, at-letter}
 use Rattle.wellformed.proofs.Firsts.{none-first}
 use Rattle.wellformed.proofs.Told.{clean, none-told}

@@ -22,9 +22,11 @@ use Rattle.table.specs.Lawful.{narrow, State, RuleInRange, Lawful}
 use Rattle.layout.specs.declared.Letter.{Letter}
 use Rattle.layout.specs.declared.Letter.the-variants.{A, D, G, P, S}
 use Rattle.layout.specs.Choices.{given, gather}
-use Rattle.layout.specs.Records.{Sheet, sheet, count, record-at, at, byte, code, no-symbol, symbol, maybe-symbol, symbols, rule-in, action-in}
+use Rattle.layout.specs.Records.{Sheet, sheet, count, record-at, at, byte, code, no-symbol, symbol, maybe-symbol}
+use Rattle.layout.specs.Records.{symbols, rule-in, action-in}
 use Rattle.layout.specs.Meaning.{placed, automaton}
-use Rattle.wellformed.specs.Formed.{SymbolByte, SymbolBytes, Has, NoGap, NamesKnown, HasTarget, ActionMakesSense, MakesSenseAs, Formed, Formed-is-lawful}
+use Rattle.wellformed.specs.Formed.{SymbolByte, SymbolBytes, Has, NoGap, NamesKnown, HasTarget, ActionMakesSense}
+use Rattle.wellformed.specs.Formed.{MakesSenseAs, Formed, Formed-is-lawful}
 use Rattle.wellformed.proofs.Tests.{none-some, some-same, mapped-some}
 use Rattle.wellformed.proofs.Formed.{formed-of}
 use Rattle.wellformed.proofs.Rows.{Row, row-of, range-at, at-letter, placed-row}

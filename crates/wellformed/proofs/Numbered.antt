@@ -17,7 +17,8 @@ use Rattle.layout.specs.Records.{sixteen, sheet, count, record-at, at, byte, co
 use Rattle.layout.specs.Meaning.{placed}
 use Rattle.layout.specs.Search.{position, start, starts, index-of, by-number}
 use Rattle.wellformed.specs.Formed.{Has, NoGap, InRangeOf, Sorted, Formed}
-use Rattle.wellformed.proofs.Rows.{Row, Known, known, at-letter, range-at, row-of, row-number, placed-row, none-placed}
+use Rattle.wellformed.proofs.Rows.{Row, Known, known, at-letter, range-at, row-of, row-number, placed-row}
+use Rattle.wellformed.proofs.Rows.{none-placed}
 use Rattle.wellformed.proofs.Seeks.{Between, at-position, letter-range}
 use Rattle.wellformed.proofs.Lookups.{digits}
 

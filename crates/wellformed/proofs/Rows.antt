@@ -12,7 +12,8 @@ use Rattle.syntax.specs.Grammar.{Present}
 use Rattle.layout.specs.declared.Letter.{Letter}
 use Rattle.layout.specs.declared.Letter.the-variants.{A, D, G, I, K, N, P, S}
 use Rattle.layout.specs.Choices.{given, first}
-use Rattle.layout.specs.Records.{Format, Sheet, count, record-at, at, byte, code, letter, letter-of, key-of, key, has-key}
+use Rattle.layout.specs.Records.{Format, Sheet, count, record-at, at, byte, code, letter, letter-of, key-of, key}
+use Rattle.layout.specs.Records.{has-key}
 use Rattle.layout.specs.Meaning.{placed}
 use Rattle.layout.specs.Opening.{by-letter}
 use Rattle.wellformed.specs.Formed.{Unused, InRangeOf, ByLetter, Sorted}

@@ -13,7 +13,8 @@ use Rattle.syntax.specs.Grammar.{Every, Present}
 use Rattle.layout.specs.Choices.{given, present, implies, below, some-below, every}
 use Rattle.layout.specs.Opening.{same-symbol}
 use Rattle.wellformed.specs.Formed.{IfAny}
-use Rattle.wellformed.proofs.Tests.{eq-T, some-same, T-and, and-T, T-or, or-T, T-implies, implies-T, T-below, below-T, T-some, some-T, T-present, present-T, T-given, given-T}
+use Rattle.wellformed.proofs.Tests.{eq-T, some-same, T-and, and-T, T-or, or-T, T-implies, implies-T, T-below, below-T}
+use Rattle.wellformed.proofs.Tests.{T-some, some-T, T-present, present-T, T-given, given-T}
 
 pub record Says (b : Bool) (Q : Type 0) : Type 0 where
   pub to : T b → Q

@@ -15,8 +15,10 @@ use Rattle.layout.specs.Refusals.{place, answered}
 use Rattle.layout.specs.Choices.{or-else, unless, first}
 use Rattle.layout.specs.Records.{Sheet, record-at, count}
 use Rattle.layout.specs.Passes.{Pass, told}
-use Rattle.layout.specs.Opening.{in-order, in-range, length-refused, record-refused, name-refused, sense-refused, sorting, opening, opening-passes}
-use Rattle.wellformed.specs.Told.{CleanBelow, RefusesFirst, Tells, AllClean, NamesPlaces, Tells-first, Opening-tells-first}
+use Rattle.layout.specs.Opening.{in-order, in-range, length-refused, record-refused, name-refused, sense-refused}
+use Rattle.layout.specs.Opening.{sorting, opening, opening-passes}
+use Rattle.wellformed.specs.Told.{CleanBelow, RefusesFirst, Tells, AllClean, NamesPlaces, Tells-first}
+use Rattle.wellformed.specs.Told.{Opening-tells-first}
 use Rattle.wellformed.proofs.Tests.{none-some, or-none, none-or, or-some, some-or, unless-some}
 use Rattle.wellformed.proofs.Firsts.{first-none, none-first, first-at, first-some}
 

@@ -16,7 +16,8 @@ use Rattle.table.specs.Lawful.{Lawful}
 use Rattle.table.specs.Hints.{deepest, added}
 use Rattle.layout.specs.declared.Letter.{Letter}
 use Rattle.layout.specs.declared.Letter.the-variants.{A, D, G, I, K, N, P, S}
-use Rattle.layout.specs.Records.{Format, Sheet, count, record-at, at, byte, code, key, payload, set-in, no-symbol, maybe-symbol, symbols, action-in}
+use Rattle.layout.specs.Records.{Format, Sheet, count, record-at, at, byte, code, key, payload, set-in, no-symbol}
+use Rattle.layout.specs.Records.{maybe-symbol, symbols, action-in}
 use Rattle.layout.specs.Meaning.{placed, automaton}
 use Rattle.layout.specs.Opening.{most-bytes, right-length, sorting, opening}
 
@@ -111,7 +112,8 @@ NamesKnown sh r A = Has sh S (at r 1) 0 × HasTarget sh (action-in r)
 NamesKnown sh r D = Has sh S (at r 1) 0 × Has sh P (at r 4) 0
 NamesKnown sh r G = Has sh S (at r 1) 0 × (Has sh N (at r 2) 0 × Has sh S (at r 4) 0)
 NamesKnown sh r I = Has sh S (at r 1) 0 × ((at r 2 ≡ added) ⊎ Has sh P (at r 2) 0)
-NamesKnown sh r K = Has sh S (at r 1) 0 × ((s : ℕ) → s < sh .format .states → T (set-in (sh .format) r s) → Has sh S s 0)
+NamesKnown sh r K =
+    Has sh S (at r 1) 0 × ((s : ℕ) → s < sh .format .states → T (set-in (sh .format) r s) → Has sh S s 0)
 NamesKnown sh r N = Unit {0}
 NamesKnown sh r P = Has sh N (at r 4) 0 × Every (HasSymbol sh) (symbols r (at r 5))
 NamesKnown sh r S = IfAny (HasSymbol sh) (maybe-symbol (at r 4)) × Every (HasSymbol sh) (symbols r (at r 5))

@@ -3,7 +3,8 @@ ghost use Rattle.layout.specs.Practice.{Cases-hold};
 ghost use Rattle.wellformed.specs.Formed.{Sorts-exactly-sorted, Opens-exactly-formed, Formed-is-lawful};
 ghost use Rattle.wellformed.specs.Told.{Tells-first, Opening-tells-first};
 
-/// Opening refuses nothing exactly of the sheets that are well-formed, and its first two passes nothing of those sorted.
+/// Opening refuses nothing exactly of the sheets that are well-formed, and its first two passes nothing of those that
+/// are sorted.
 pub fn opens_exactly_the_well_formed()
     ensures sorted { λ _. ⌜ Sorts-exactly-sorted ⌝ }
     ensures formed { λ _. ⌜ Opens-exactly-formed ⌝ }

@@ -10,4 +10,5 @@ returns-then-length-fits c =
     refuses-nothing _ 1 1 (first-more _ 0 (first-start _) (unless-passes _ (sym (c .if-length-fits .ensures tt)))) refl
 
 pub returns-else-length-fits : need.returns-else-length-fits
-returns-else-length-fits c = refuses-at _ 1 0 _ (first-start _) (unless-fails _ (sym (c .if-length-fits .ensures tt))) (omega arith)
+returns-else-length-fits c =
+    refuses-at _ 1 0 _ (first-start _) (unless-fails _ (sym (c .if-length-fits .ensures tt))) (omega arith)

@@ -17,7 +17,8 @@ cast-result c = omega arith
 
 pub returns-then-not-in-order : need.returns-then-not-in-order
 returns-then-not-in-order c =
-    refuses-at _ _ _ _ (c .loop-i .inv) (some-or _ _ _ (unless-fails _ (sym (c .if-not-in-order .ensures tt)))) (omega arith)
+    let unordered = some-or _ _ _ (unless-fails _ (sym (c .if-not-in-order .ensures tt))) in
+    refuses-at _ _ _ _ (c .loop-i .inv) unordered (omega arith)
 
 pub cast-result-then-not-row-in-range : need.cast-result-then-not-row-in-range
 unfolding count

@@ -1,13 +1,14 @@
 use mathlib.Core.Path.{_≡_, refl, sym, ap, subst, _∙_}
-use Prim.Native.Nat.{_+_}
+use mathlib.Core.List.{List}
+use Prim.Native.Nat.{ℕ}
 use Rattle.std.proofs.shelf.Results.{err-from-errBy}
 use Rattle.std.specs.declared.result.Result.the-variants.{Ok, Err}
-use Rattle.layout.specs.Choices.{first}
-use Rattle.layout.specs.Records.{sheet, count}
+use Rattle.layout.specs.Records.{sheet}
 use Rattle.layout.specs.Refusals.{answered}
-use Rattle.layout.specs.Opening.{name-refused, sense-refused}
+use Rattle.layout.specs.Opening.{names-found, sense-found}
 use Rattle.wellformed.proofs.Formed.{sorts-exactly-sorted, short-bytes}
-use Rattle.wellformed.proofs.Told.{ok-none, err-some, refused-answer, length-told, records-told, names-told, sense-told, none-sorting}
+use Rattle.wellformed.proofs.Told.{ok-none, err-some, refused-answer, length-told, records-told, names-told}
+use Rattle.wellformed.proofs.Told.{sense-told, none-sorting}
 use Rattle.sheet.proofs.opening.inspect.Needs as need
 
 pub returns-in-Break-check-length : need.returns-in-Break-check-length
@@ -20,7 +21,8 @@ check-records-requires c κs = short-bytes _ (ok-none _ (c .in-Continue-check-le
 
 pub returns-in-Break-check-records : need.returns-in-Break-check-records
 returns-in-Break-check-records c =
-    let p = err-from-errBy (c .from-residual-in-Break-check-records .result) (c .from-residual-in-Break-check-records .ensures .1) in
+    let left = c .from-residual-in-Break-check-records in
+    let p = err-from-errBy (left .result) (left .ensures .1) in
     let length-none = ok-none _ (c .in-Continue-check-length .ensures tt) in
     rw (p .1, p .2) (refused-answer (records-told _ length-none (err-some _ _ (c .in-Break-check-records .ensures tt))))
 
@@ -31,10 +33,12 @@ sorted-sheet-sorted-requires c κs =
 
 pub returns-in-Break-check-names : need.returns-in-Break-check-names
 returns-in-Break-check-names c =
-    let p = err-from-errBy (c .from-residual-in-Break-check-names .result) (c .from-residual-in-Break-check-names .ensures .1) in
+    let left = c .from-residual-in-Break-check-names in
+    let p = err-from-errBy (left .result) (left .ensures .1) in
     let length-none = ok-none _ (c .in-Continue-check-length .ensures tt) in
     let records-none = ok-none _ (c .in-Continue-check-records .ensures tt) in
-    let told = subst (λ bs. Err (c .in-Break-check-names .field-0 .0) ≡ answered (first (name-refused (sheet bs)) (count (sheet bs) + 1))) (c .sorted-sheet-sorted .ensures) (c .in-Break-check-names .ensures tt) in
+    let at-names : List ℕ → Type 0 = λ bs. Err (c .in-Break-check-names .field-0 .0) ≡ answered (names-found (sheet bs)) in
+    let told = subst at-names (c .sorted-sheet-sorted .ensures) (c .in-Break-check-names .ensures tt) in
     rw (p .1, p .2) (refused-answer (names-told _ length-none records-none (err-some _ _ told)))
 
 pub returns : need.returns
@@ -42,6 +46,8 @@ returns c =
     let same = c .sorted-sheet-sorted .ensures in
     let length-none = ok-none _ (c .in-Continue-check-length .ensures tt) in
     let records-none = ok-none _ (c .in-Continue-check-records .ensures tt) in
-    let named = subst (λ bs. Ok tt ≡ answered (first (name-refused (sheet bs)) (count (sheet bs) + 1))) same (c .in-Continue-check-names .ensures tt) in
-    let told = subst (λ bs. c .check-sense .result ≡ answered (first (sense-refused (sheet bs)) (count (sheet bs)))) same (c .check-sense .ensures) in
+    let at-names : List ℕ → Type 0 = λ bs. Ok tt ≡ answered (names-found (sheet bs)) in
+    let named = subst at-names same (c .in-Continue-check-names .ensures tt) in
+    let at-sense : List ℕ → Type 0 = λ bs. c .check-sense .result ≡ answered (sense-found (sheet bs)) in
+    let told = subst at-sense same (c .check-sense .ensures) in
     told ∙ sym (ap answered (sense-told _ length-none records-none (ok-none _ named) refl))

@@ -12,4 +12,5 @@ add-mid c = omega (arith, few-records _ (c .pre .0), c .loop-low .inv .within)
 pub returns : need.returns
 returns c =
     let same : c .loop-low .high ≡ c .loop-low .low = omega (arith, c .loop-low .inv .ordered) in
-    sym (position-is _ (c .pre .0) _ _ (subst (Between (sheet (c .args .bytes .now)) (c .args .k) (c .loop-low .low)) same (c .loop-low .inv)))
+    let closed = subst (Between (sheet (c .args .bytes .now)) (c .args .k) (c .loop-low .low)) same (c .loop-low .inv) in
+    sym (position-is _ (c .pre .0) _ _ closed)

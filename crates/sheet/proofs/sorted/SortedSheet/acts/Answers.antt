@@ -15,4 +15,5 @@ returns-then-i-count c =
 pub returns-else-i-count : need.returns-else-i-count
 returns-else-i-count c =
     let past : ltb (c .position-of-i .result) (c .count .result) ≡ false = grind (arith, tells) in
-    past ∙ sym (acts-nowhere _ (sorted-of _ (c .args .self .now .sorted)) (c .args .s) _ (c .position-of-i .ensures) (omega arith))
+    past
+    ∙ sym (acts-nowhere _ (sorted-of _ (c .args .self .now .sorted)) (c .args .s) _ (c .position-of-i .ensures) (omega arith))

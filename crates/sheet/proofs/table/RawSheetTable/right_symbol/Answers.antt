@@ -13,11 +13,13 @@ use Rattle.sheet.proofs.table.RawSheetTable.right_symbol.Needs as need
 
 pub symbol-of-requires : need.symbol-of-requires
 symbol-of-requires c κs =
-    let few = short-production _ (c .args .p) (c .in-Some .i) (sym (c .in-Some .ensures tt .value)) (sorted-of _ (c .args .self .now .sorted .sorted)) in
+    let w = sorted-of _ (c .args .self .now .sorted .sorted) in
+    let few = short-production _ (c .args .p) (c .in-Some .i) (sym (c .in-Some .ensures tt .value)) w in
     (c .record-of .ensures .width, subst (λ r. at r 5 ≤ 8) (sym (c .record-of .ensures .value)) few)
 
 pub returns-in-Some : need.returns-in-Some
 returns-in-Some c =
-    let told : List ℕ → Option Symbol = λ r. cond (ltb (c .args .k) (at r 5)) (Some (symbol (at r (8 + c .args .k)))) None in
+    let k = c .args .k in
+    let told : List ℕ → Option Symbol = λ r. cond (ltb k (at r 5)) (Some (symbol (at r (8 + k)))) None in
     c .symbol-of .ensures ∙ ap told (c .record-of .ensures .value)
-    ∙ symbol-in _ (c .args .p) (c .in-Some .i) (sym (c .in-Some .ensures tt .value)) (c .args .k)
+    ∙ symbol-in _ (c .args .p) (c .in-Some .i) (sym (c .in-Some .ensures tt .value)) k
