@@ -10,6 +10,7 @@ ghost use Rattle.sink.specs.Faults.{number as numberOf, place as placeOf};
 use syntax::Token;
 
 mod lent;
+
 pub use lent::LentSink;
 
 /// Why a sink refuses an event, with the length of its list.
