@@ -5,39 +5,46 @@ use mathlib.Core.List.{List, [], _∷_, _++_}
 use Prim.Native.Nat.{ℕ, zero, suc, _+_, _-_, _<_, _≤_, min}
 use native.Mathlib.Omega.{arith}
 use lib.ListN.{length, take, drop, set}
+use denote.Ref.{at-last}
 use Rattle.std.proofs.shelf.Lists.{length-set, length-take, take-more-set, take-take}
 use Rattle.std.proofs.shelf.Parts.{between-is}
 use Rattle.std.proofs.shelf.Ways.{tells}
 use Rattle.sink.specs.Stacks.{endless, limited, full, sent, back}
-use Rattle.totals.specs.Places.{held}
+use Rattle.totals.specs.declared.Totals.{Totals}
+use Rattle.totals.specs.Meaning.{places, meaning, Begins}
 
 -- a number above that of the places stands for all of them
-clipped : {M : Type 0} (j : ℕ) (xs : List M) → take j xs ≡ take (length (take j xs)) xs
-clipped zero xs = refl
-clipped (suc j) [] = refl
-clipped (suc j) (x ∷ xs) = ap (λ ys. x ∷ ys) (clipped j xs)
+pub begins : {M : Type 0} (j : ℕ) (xs : List M) → Begins xs (take j xs)
+begins zero xs = refl
+begins (suc j) [] = refl
+begins (suc j) (x ∷ xs) = ap (λ ys. x ∷ ys) (begins j xs)
 
 -- n places are taken, and a value goes to the place `at`, where the first of its k children stands
-module _ {M : Type 0} (s : List M) (used n k at : ℕ)
-    (n-is : n ≡ min used (length s)) (few : k ≤ n) (at-is : at ≡ n - k) (free : at < length s) where
-  height : length (take used s) ≡ n
-  height = length-take used s ∙ sym n-is
+module _ {M : Type 0} (a : Totals M) (n k at : ℕ)
+    (n-is : n ≡ min (a .used) (length (places a))) (few : k ≤ n) (at-is : at ≡ n - k) (free : at < length (places a)) where
+  abbrev list : List M
+  list = meaning a .list
 
-  taken : take used s ≡ take n s
-  taken = clipped used s ∙ ap (λ m. take m s) height
+  height : length list ≡ n
+  height = length-take (a .used) (places a) ∙ sym n-is
 
-  start : length (take used s) - k ≡ at
+  taken : list ≡ take n (places a)
+  taken = sym (begins (a .used) (places a)) ∙ ap (λ m. take m (places a)) height
+
+  start : length list - k ≡ at
   start = omega (arith, height)
 
-  pub room : full k (held s used) ≡ false
+  pub room : full k (meaning a) ≡ false
   room = grind (arith, tells)
 
-  pub children : back k (take used s) ≡ take (n - at) (drop at s)
-  children = (λ i. drop (start i) (taken i)) ∙ sym (between-is s at n)
+  pub children : back k list ≡ take (n - at) (drop at (places a))
+  children = (λ i. drop (start i) (taken i)) ∙ sym (between-is (places a) at n)
 
-  pub placed : (v : M) → held (set s at v) (at + 1) ≡ sent k v (held s used)
-  placed v =
-      let front = (λ i. take (start i) (taken i)) ∙ take-take at n s (omega arith) in
-      let list = take-more-set s at v free ∙ ap (λ l. l ++ (v ∷ [])) (sym front) in
-      let cells : length (set s at v) - (at + 1) ≡ length s - used + k - 1 = omega (arith, length-set s at v) in
-      λ i. record { list = list i; records = endless; cells = limited (cells i) }
+  pub placed : (new : List M) (v : M) → new ≡ set (places a) at v →
+      meaning (record { places = at-last (a .places) new; used = at + 1 }) ≡ sent k v (meaning a)
+  placed new v new-is =
+      let front = (λ i. take (start i) (taken i)) ∙ take-take at n (places a) (omega arith) in
+      let pushed = ap (take (at + 1)) new-is ∙ take-more-set (places a) at v free ∙ ap (λ l. l ++ (v ∷ [])) (sym front) in
+      let long = ap length new-is ∙ length-set (places a) at v in
+      let cells : length new - (at + 1) ≡ length (places a) - a .used + k - 1 = omega arith in
+      λ i. record { list = pushed i; records = endless; cells = limited (cells i) }

@@ -1,10 +1,9 @@
 //! Totals: a sink that measures trees, on a stack in a caller's slice.
-ghost use mathlib.Core.Path.{_≡_, refl, _∙_};
+ghost use mathlib.Core.Path.{_≡_};
 ghost use Prim.Native.Nat.{_≤_, _<_, _-_, min};
 ghost use lib.ListN.{length, take, drop, set};
-ghost use denote.Ref.{now, name};
 ghost use Rattle.measure.specs.Joins.{joined, joining};
-ghost use Rattle.totals.specs.Places.{held};
+ghost use Rattle.totals.specs.Meaning.{places as placesOf, meaning as meaningOf, Begins, Kept, kept-none, kept-more};
 use measure::Measure;
 use measure::join_all;
 use sink::Sink;
@@ -22,17 +21,15 @@ pub struct Totals<'a, M> {
 impl<'a, M> Totals<'a, M> {
     /// An empty stack: all places are free.
     pub fn new(places: &'a mut [M]) -> Totals<'a, M>
-        ensures empty { λ r. ⌜ r .used ≡ 0 ⌝ }
-        ensures places { λ r. ⌜ now (r .places) ≡ now (places .entry) ⌝ }
-        ensures lent { λ r. ⌜ name (r .places) ≡ name (places .entry) ⌝ }
+        ensures { λ r. ⌜ r ≡ record { places = places .entry; used = 0 } ⌝ }
     {
         Totals { places, used: 0 }
     }
 
     /// The places as they stand: the list, and behind it what is free.
     pub fn finish(self) -> &'a mut [M]
-        ensures places { λ r. ⌜ now r ≡ now (self .entry .places) ⌝ }
-        ensures lent { λ r. ⌜ name r ≡ name (self .entry .places) ⌝ }
+        ensures places { λ r. ⌜ r ≡ self .entry .places ⌝ }
+        ensures list { λ r. ⌜ Begins (now r) (meaningOf (self .entry) .list) ⌝ }
     {
         let Totals { places, used: _ } = self;
         places
@@ -40,8 +37,8 @@ impl<'a, M> Totals<'a, M> {
 
     /// How many places are taken.
     fn height(&self) -> usize
-        ensures places { λ r. ⌜ r ≡ min (now (self .entry) .used) (length (now (now (self .entry) .places))) ⌝ }
-        ensures list { λ r. ⌜ r ≡ length (take (now (self .entry) .used) (now (now (self .entry) .places))) ⌝ }
+        ensures places { λ r. ⌜ r ≡ min (now (self .entry) .used) (length (placesOf (now (self .entry)))) ⌝ }
+        ensures list { λ r. ⌜ r ≡ length (meaningOf (now (self .entry)) .list) ⌝ }
     {
         self.used.min(self.places.len())
     }
@@ -61,13 +58,13 @@ pub impl<'a, M: Measure + Copy> Sink for Totals<'a, M> as TotalsSink {
 
     ghost algebra = { joining M·Measure };
 
-    ghost meaning = { λ s. held (now (s .places)) (s .used) };
+    ghost meaning = { meaningOf };
 
-    ghost grows = { λ a b. (name (b .places) ≡ name (a .places)) × (length (now (b .places)) ≡ length (now (a .places))) };
+    ghost grows = { Kept };
 
-    ghost still = { λ _. (refl, refl) };
+    ghost still = { kept-none };
 
-    ghost onward = { λ _ _ _ p q. (q .0 ∙ p .0, q .1 ∙ p .1) };
+    ghost onward = { kept-more };
 
     fn trees(&self) -> u64 {
         self.height() as u64
@@ -89,7 +86,7 @@ pub impl<'a, M: Measure + Copy> Sink for Totals<'a, M> as TotalsSink {
         if n < k {
             return Err(SinkFault::TooFewTrees { trees: n as u64 });
         }
-        // Where the first child stands; only a node without children can find no place there.
+        // The value goes where the first child stands; only without children can there be no such place.
         let at = n - k;
         if at == self.places.len() {
             return Err(SinkFault::Full { trees: n as u64 });

@@ -23,7 +23,7 @@ same-pile (suc n) cs bs h =
     let e : 16 * suc n ≡ 16 * n + 16 = omega arith in
     let both : take (16 * n + 16) cs ≡ take (16 * n + 16) bs = subst (λ m. take m cs ≡ take m bs) e h in
     let near : (ds : List ℕ) → take (16 * n) (take (16 * n + 16) ds) ≡ take (16 * n) ds =
-      λ ds. take-take (16 * n) (16 * n + 16) ds (omega arith) in
+    λ ds. take-take (16 * n) (16 * n + 16) ds (omega arith) in
     let low = sym (near cs) ∙ ap (take (16 * n)) both ∙ near bs in
     let here = sym (drop-take (16 * n) 16 cs) ∙ ap (drop (16 * n)) both ∙ drop-take (16 * n) 16 bs in
     λ i. played (here i) (same-pile n cs bs low i)
@@ -58,7 +58,7 @@ module _ (d : List ℕ) (n : ℕ) (r : List ℕ) (free : n < places d) (sixteen 
   pub next-pile : pile (n + 1) next ≡ played r (pile n d)
   next-pile =
       let here : record-at next n ≡ r =
-        sym (drop-take (16 * n) 16 next) ∙ ap (drop (16 * n)) next-front ∙ drop-at (take (16 * n) d) r (16 * n) fore in
+      sym (drop-take (16 * n) 16 next) ∙ ap (drop (16 * n)) next-front ∙ drop-at (take (16 * n) d) r (16 * n) fore in
       ap (λ m. pile m next) (add-one n) ∙ (λ i. played (here i) (same-pile n next d next-low i))
 
 -- one tree of the last k, with r behind them, keeps all that was joined
@@ -91,8 +91,8 @@ module _ (a b : Trace) (k : ℕ) (r : List ℕ)
   list-is =
       let trees : listed b ≡ listed a - k + 1 = omega (arith, one-more) in
       let pile-is =
-        (λ i. pile (one-more i) (bytes-is i)) ∙ next-pile (bytes a) (written a) r free sixteen
-        ∙ (λ i. put (joined (top (kids i) was) ++ r) (below (kids i) was)) in
+      (λ i. pile (one-more i) (bytes-is i)) ∙ next-pile (bytes a) (written a) r free sixteen
+      ∙ (λ i. put (joined (top (kids i) was) ++ r) (below (kids i) was)) in
       (λ i. top (trees i) (pile-is i)) ∙ top-put (listed a - k) (joined (top k was) ++ r) (below k was)
       ∙ sym (λ i. front-top (listed a) k was few i ++ ((joined (back-top (listed a) k was few i) ++ r) ∷ []))
 
@@ -116,7 +116,7 @@ module _ (a b : Trace) (k : ℕ) (r : List ℕ)
     more = omega (arith, one-more);
     front = ap (take (16 * written a)) bytes-is ∙ next-low (bytes a) (written a) r free sixteen;
     behind =
-      (λ i. drop (end i) (bytes-is i)) ∙ next-behind (bytes a) (written a) r free sixteen
-      ∙ ap (λ m. drop m (bytes a)) (sym end);
+        (λ i. drop (end i) (bytes-is i)) ∙ next-behind (bytes a) (written a) r free sixteen
+        ∙ ap (λ m. drop m (bytes a)) (sym end);
     whole = whole;
   }

@@ -41,7 +41,7 @@ behind-twice : (xs ys zs : List ℕ) (m n : ℕ) → m ≤ n → drop (16 * m) y
 behind-twice xs ys zs m n h p q =
     let far : 16 * m + (16 * n - 16 * m) ≡ 16 * n = omega arith in
     let on : (ws : List ℕ) → drop (16 * n) ws ≡ drop (16 * n - 16 * m) (drop (16 * m) ws) =
-      λ ws. sym (drop-drop (16 * n - 16 * m) (16 * m) ws ∙ ap (λ j. drop j ws) far) in
+    λ ws. sym (drop-drop (16 * n - 16 * m) (16 * m) ws ∙ ap (λ j. drop j ws) far) in
     q ∙ on ys ∙ ap (drop (16 * n - 16 * m)) p ∙ sym (on xs)
 
 pub grown-more : (a b c : Trace) → Grown a b → Grown b c → Grown a c

@@ -28,9 +28,7 @@ pub struct Trace<'a> {
 impl<'a> Trace<'a> {
     /// A trace without a record; all bytes are as they were.
     pub fn new(bytes: &'a mut [u8]) -> Trace<'a>
-        ensures empty { λ r. ⌜ (r .records ≡ 0) × (r .trees ≡ 0) ⌝ }
-        ensures bytes { λ r. ⌜ now (r .bytes) ≡ now (bytes .entry) ⌝ }
-        ensures lent { λ r. ⌜ name (r .bytes) ≡ name (bytes .entry) ⌝ }
+        ensures { λ r. ⌜ r ≡ record { bytes = bytes .entry; records = 0; trees = 0 } ⌝ }
     {
         Trace {
             bytes,
@@ -49,9 +47,8 @@ impl<'a> Trace<'a> {
     /// Hands the bytes back. From `new` on they are the trees of the list, record by record, and behind these all is as it
     /// was.
     pub fn finish(self) -> &'a mut [u8]
-        ensures bytes { λ r. ⌜ now r ≡ now (self .entry .bytes) ⌝ }
+        ensures bytes { λ r. ⌜ r ≡ self .entry .bytes ⌝ }
         ensures records { λ _. ⌜ Traced (self .entry) ⌝ }
-        ensures lent { λ r. ⌜ name r ≡ name (self .entry .bytes) ⌝ }
     {
         let Trace {
             bytes,
@@ -91,14 +88,46 @@ fn leaf_record(token: Token) -> [u8; 16]
     let p = token.place.to_be_bytes();
     let v = token.value.to_be_bytes();
     [
-        b'L', token.kind, 0, 0, p[0], p[1], p[2], p[3], v[0], v[1], v[2], v[3], v[4], v[5], v[6], v[7],
+        b'L',
+        token.kind,
+        0,
+        0,
+        p[0],
+        p[1],
+        p[2],
+        p[3],
+        v[0],
+        v[1],
+        v[2],
+        v[3],
+        v[4],
+        v[5],
+        v[6],
+        v[7],
     ]
 }
 
 fn node_record(production: u8, children: u8) -> [u8; 16]
     ensures { λ r. ⌜ r ≡ node-record production children ⌝ }
 {
-    [b'N', production, children, 0, 0, 0, 0, 0, 0, 0, 0, 0, 0, 0, 0, 0]
+    [
+        b'N',
+        production,
+        children,
+        0,
+        0,
+        0,
+        0,
+        0,
+        0,
+        0,
+        0,
+        0,
+        0,
+        0,
+        0,
+        0,
+    ]
 }
 
 /// Writes `event` at `at`; the bytes before and behind it stay.
@@ -139,10 +168,14 @@ pub impl<'a> Sink for Trace<'a> as TraceSink {
     fn node(&mut self, production: u8, children: u8) -> Result<(), SinkFault> {
         let trees = self.listed();
         if trees < children as usize {
-            return Err(SinkFault::TooFewTrees { trees: trees as u64 });
+            return Err(SinkFault::TooFewTrees {
+                trees: trees as u64,
+            });
         }
         if self.written() == self.bytes.len() / 16 {
-            return Err(SinkFault::Full { trees: trees as u64 });
+            return Err(SinkFault::Full {
+                trees: trees as u64,
+            });
         }
         self.append(children as usize, node_record(production, children));
         Ok(())

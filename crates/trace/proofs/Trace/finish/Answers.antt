@@ -3,4 +3,4 @@ use Rattle.trace.proofs.Traced.{traced}
 use Rattle.trace.proofs.Trace.finish.Needs as need
 
 pub returns : need.returns
-returns c = record { bytes = refl; records = traced (c .args .self); lent = refl }
+returns c = record { bytes = refl; records = traced (c .args .self) }
