@@ -1,0 +1,43 @@
+//! Events as data: a list of them goes to any sink, up to the first that it refuses.
+ghost use mathlib.Core.Path.{_≡_};
+ghost use mathlib.Core.Bool.{true};
+ghost use Rattle.std.specs.Results.{isErr};
+ghost use Rattle.replay.specs.Events.{answer as answerOf, after as afterOf, sent-all};
+use sink::Sink;
+use sink::SinkFault;
+use syntax::Token;
+
+mod recorder;
+pub use recorder::Recorder;
+pub use recorder::recorded;
+
+
+/// What a reading sends to a sink: a token, or a reduction.
+#[derive(Clone, Copy)]
+pub enum Event {
+    Leaf(Token),
+    Node { production: u8, children: u8 },
+}
+
+pub fn send<K: Sink>(sink: &mut K, event: Event) -> Result<(), SinkFault>
+    ensures answer { λ r. ⌜ r ≡ answerOf event (meaning (now (sink .entry))) ⌝ }
+    ensures after { λ _. ⌜ meaning (now (sink .exit)) ≡ afterOf algebra event (meaning (now (sink .entry))) ⌝ }
+    ensures memory { λ _. ⌜ grows (now (sink .entry)) (now (sink .exit)) ⌝ }
+    ensures refused { λ r. ⌜ (isErr r ≡ true → now (sink .exit) ≡ now (sink .entry)) ⌝ }
+{
+    match event {
+        Event::Leaf(token) => sink.leaf(token),
+        Event::Node { production, children } => sink.node(production, children),
+    }
+}
+
+/// Sends events in order; the first that is refused ends it.
+pub fn send_all<K: Sink>(sink: &mut K, events: &[Event]) -> Result<(), SinkFault>
+    ensures sent { λ r. ⌜ (r, meaning (now (sink .exit))) ≡ sent-all algebra (now (events .entry)) (meaning (now (sink .entry))) ⌝ }
+    ensures memory { λ _. ⌜ grows (now (sink .entry)) (now (sink .exit)) ⌝ }
+{
+    for event in events {
+        send(sink, *event)?;
+    }
+    Ok(())
+}
