@@ -11,6 +11,9 @@ pub use minutes::Minutes;
 pub use rows::join_all;
 pub use rows::over_leaves;
 pub use spans::Span;
+pub use spans::SpanDebug;
+pub use spans::SpanEq;
+pub use spans::SpanPartialEq;
 pub use spans::Spans;
 
 /// What tokens are measured by: a value for each, and a join that is associative and has a unit.
