@@ -8,9 +8,9 @@ use sink::SinkFault;
 use syntax::Token;
 
 mod recorder;
+
 pub use recorder::Recorder;
 pub use recorder::recorded;
-
 
 /// What a reading sends to a sink: a token, or a reduction.
 #[derive(Clone, Copy)]
@@ -27,7 +27,10 @@ pub fn send<K: Sink>(sink: &mut K, event: Event) -> Result<(), SinkFault>
 {
     match event {
         Event::Leaf(token) => sink.leaf(token),
-        Event::Node { production, children } => sink.node(production, children),
+        Event::Node {
+            production,
+            children,
+        } => sink.node(production, children),
     }
 }
 

@@ -47,7 +47,11 @@ impl<'a> Recorder<'a> {
 
 /// Events, sent to a new recorder: the answer, and the bytes, in which the records of the events that were taken stand and
 /// behind them all is as it was.
-pub fn recorded<'a>(limit: u64, bytes: &'a mut [u8], events: &[Event]) -> (Result<(), SinkFault>, &'a mut [u8])
+pub fn recorded<'a>(
+    limit: u64,
+    bytes: &'a mut [u8],
+    events: &[Event],
+) -> (Result<(), SinkFault>, &'a mut [u8])
     ensures answer { λ r. ⌜ r .0 ≡ sent-all postfix (now (events .entry)) (blank limit (now (bytes .entry))) .0 ⌝ }
     ensures bytes { λ r. ⌜ now (r .1) ≡ overlaid (now (bytes .entry)) (sent-all postfix (now (events .entry)) (blank limit (now (bytes .entry))) .1 .list) ⌝ }
 {

@@ -26,7 +26,12 @@ fn a_quota_of_0_over_a_trace_takes_nothing_and_tells_too_few_trees_first() -> Re
 fn a_quota_ends_at_the_smaller_of_its_number_and_the_places_below() -> Result<(), Fail> {
     let mut bytes = [0; 32];
     let mut sink = Quota::new(3, Trace::new(&mut bytes));
-    let answers = [sink.leaf(ON), sink.leaf(OFF), sink.node(1, 3), sink.node(1, 2)];
+    let answers = [
+        sink.leaf(ON),
+        sink.leaf(OFF),
+        sink.node(1, 3),
+        sink.node(1, 2),
+    ];
     let too_few = Err(SinkFault::TooFewTrees { trees: 2 });
     let full = Err(SinkFault::Full { trees: 2 });
     check_eq(answers, [Ok(()), Ok(()), too_few, full])?;
@@ -49,5 +54,8 @@ fn quotas_stack_over_a_sink_that_is_lent() -> Result<(), Fail> {
 fn a_fault_has_its_number_and_the_length_of_the_list_as_its_place() -> Result<(), Fail> {
     let full = SinkFault::Full { trees: 4 };
     let few = SinkFault::TooFewTrees { trees: 5 };
-    check_eq([(full.number(), full.place()), (few.number(), few.place())], [(23, 4), (24, 5)])
+    check_eq(
+        [(full.number(), full.place()), (few.number(), few.place())],
+        [(23, 4), (24, 5)],
+    )
 }

@@ -30,7 +30,12 @@ fn number(value: u64) -> Token {
 fn minutes_stop_at_the_largest_number() -> Result<(), Fail> {
     let mut places = [0u64; 3];
     let mut totals = Totals::new(&mut places);
-    let answers = [totals.leaf(number(u64::MAX - 1)), totals.leaf(ON), totals.leaf(number(2)), totals.node(1, 3)];
+    let answers = [
+        totals.leaf(number(u64::MAX - 1)),
+        totals.leaf(ON),
+        totals.leaf(number(2)),
+        totals.node(1, 3),
+    ];
     check_eq(answers, [Ok(()); 4])?;
     check_eq(totals.finish().first().copied(), Some(u64::MAX))
 }
@@ -41,7 +46,10 @@ fn a_span_over_two_tokens_goes_from_the_first_place_to_the_last_end() -> Result<
     let mut totals = Totals::new(&mut places);
     let answers = [totals.leaf(OFF), totals.leaf(ON), totals.node(1, 2)];
     check_eq(answers, [Ok(()); 3])?;
-    check_eq(totals.finish().first().copied(), Some(Span { start: 0, end: 6 }))
+    check_eq(
+        totals.finish().first().copied(),
+        Some(Span { start: 0, end: 6 }),
+    )
 }
 
 #[test]
@@ -64,7 +72,11 @@ fn a_span_may_end_beyond_32_bits_and_that_of_no_token_is_the_unit() -> Result<()
 fn two_places_are_full_for_a_childless_node_and_not_for_one_with_children() -> Result<(), Fail> {
     let mut places = [0u64; 2];
     let mut totals = Totals::new(&mut places);
-    let leaves = [totals.leaf(number(3)), totals.leaf(number(4)), totals.leaf(number(5))];
+    let leaves = [
+        totals.leaf(number(3)),
+        totals.leaf(number(4)),
+        totals.leaf(number(5)),
+    ];
     let nodes = [totals.node(0, 0), totals.node(0, 3), totals.node(0, 2)];
     let full = Err(SinkFault::Full { trees: 2 });
     let too_few = Err(SinkFault::TooFewTrees { trees: 2 });

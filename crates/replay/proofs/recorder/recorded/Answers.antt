@@ -19,6 +19,6 @@ returns c =
     record {
       answer = λ i. all i .0;
       bytes =
-        (λ i. c .finish .ensures .bytes i .now) ∙ c .finish .ensures .records start none (c .send-all-answer .ensures .memory)
-        ∙ (λ i. overlaid (bytes i) (all i .1 .list));
+          (λ i. c .finish .ensures .bytes i .now) ∙ c .finish .ensures .records start none (c .send-all-answer .ensures .memory)
+          ∙ (λ i. overlaid (bytes i) (all i .1 .list));
     }
