@@ -2,7 +2,7 @@
 ghost use mathlib.Core.Path.{_≡_};
 ghost use mathlib.Core.Bool.{true};
 ghost use Rattle.std.specs.Results.{isErr};
-ghost use Rattle.replay.specs.Events.{answer as answerOf, after as afterOf, sent-all};
+ghost use Rattle.replay.specs.Events.{answer as answerOf, after as afterOf, Sent};
 use sink::Sink;
 use sink::SinkFault;
 use syntax::Token;
@@ -36,7 +36,7 @@ pub fn send<K: Sink>(sink: &mut K, event: Event) -> Result<(), SinkFault>
 
 /// Sends events in order; the first that is refused ends it.
 pub fn send_all<K: Sink>(sink: &mut K, events: &[Event]) -> Result<(), SinkFault>
-    ensures sent { λ r. ⌜ (r, meaning (now (sink .exit))) ≡ sent-all algebra (now (events .entry)) (meaning (now (sink .entry))) ⌝ }
+    ensures sent { λ r. ⌜ Sent K·Sink (now (events .entry)) (now (sink .entry)) r (now (sink .exit)) ⌝ }
     ensures memory { λ _. ⌜ grows (now (sink .entry)) (now (sink .exit)) ⌝ }
 {
     for event in events {

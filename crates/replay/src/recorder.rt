@@ -1,8 +1,6 @@
 ghost use mathlib.Core.Path.{_≡_};
-ghost use Rattle.trace.specs.Records.{postfix};
-ghost use Rattle.trace.specs.Grown.{Grown, overlaid, Traced};
-ghost use Rattle.replay.specs.Events.{sent-all};
-ghost use Rattle.replay.specs.Recorded.{recording, blank};
+ghost use Rattle.trace.specs.Grown.{Grown, Traced};
+ghost use Rattle.replay.specs.Recorded.{fresh, Fed, first-answer, overwritten};
 use crate::Event;
 use crate::send_all;
 use quota::Quota;
@@ -20,7 +18,7 @@ pub struct Recorder<'a> {
 impl<'a> Recorder<'a> {
     /// Takes `limit` events at most, and no more than the bytes have whole places.
     pub fn new(limit: u64, bytes: &'a mut [u8]) -> Recorder<'a>
-        ensures { λ r. ⌜ r ≡ record { sink = record { left = limit; below = record { bytes = bytes .entry; records = 0; trees = 0 } } } ⌝ }
+        ensures { λ r. ⌜ r ≡ fresh limit (bytes .entry) ⌝ }
     {
         Recorder {
             sink: Quota::new(limit, Trace::new(bytes)),
@@ -29,7 +27,7 @@ impl<'a> Recorder<'a> {
 
     /// Sends events in order; the first that is refused ends it.
     pub fn send_all(&mut self, events: &[Event]) -> Result<(), SinkFault>
-        ensures sent { λ r. ⌜ (r, recording (now (self .exit))) ≡ sent-all postfix (now (events .entry)) (recording (now (self .entry))) ⌝ }
+        ensures sent { λ r. ⌜ Fed (now (events .entry)) (now (self .entry)) r (now (self .exit)) ⌝ }
         ensures memory { λ _. ⌜ Grown (now (self .entry) .sink .below) (now (self .exit) .sink .below) ⌝ }
     {
         send_all(&mut self.sink, events)
@@ -45,15 +43,15 @@ impl<'a> Recorder<'a> {
     }
 }
 
-/// Events, sent to a new recorder: the answer, and the bytes, in which the records of the events that were taken stand and
-/// behind them all is as it was.
+/// Sends events to a new recorder, and hands its bytes back: the records of the events that were taken, and behind
+/// them all as it was.
 pub fn recorded<'a>(
     limit: u64,
     bytes: &'a mut [u8],
     events: &[Event],
 ) -> (Result<(), SinkFault>, &'a mut [u8])
-    ensures answer { λ r. ⌜ r .0 ≡ sent-all postfix (now (events .entry)) (blank limit (now (bytes .entry))) .0 ⌝ }
-    ensures bytes { λ r. ⌜ now (r .1) ≡ overlaid (now (bytes .entry)) (sent-all postfix (now (events .entry)) (blank limit (now (bytes .entry))) .1 .list) ⌝ }
+    ensures answer { λ r. ⌜ r .0 ≡ first-answer limit (now (events .entry)) (now (bytes .entry)) ⌝ }
+    ensures bytes { λ r. ⌜ now (r .1) ≡ overwritten limit (now (events .entry)) (now (bytes .entry)) ⌝ }
 {
     let mut recorder = Recorder::new(limit, bytes);
     let answer = recorder.send_all(events);

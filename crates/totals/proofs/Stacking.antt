@@ -21,7 +21,8 @@ begins (suc j) (x ∷ xs) = ap (λ ys. x ∷ ys) (begins j xs)
 
 -- n places are taken, and a value goes to the place `at`, where the first of its k children stands
 module _ {M : Type 0} (a : Totals M) (n k at : ℕ)
-    (n-is : n ≡ min (a .used) (length (places a))) (few : k ≤ n) (at-is : at ≡ n - k) (free : at < length (places a)) where
+    (n-is : n ≡ min (a .used) (length (places a))) (few : k ≤ n) (at-is : at ≡ n - k)
+    (free : at < length (places a)) where
   abbrev list : List M
   list = meaning a .list
 
@@ -44,7 +45,8 @@ module _ {M : Type 0} (a : Totals M) (n k at : ℕ)
       meaning (record { places = at-last (a .places) new; used = at + 1 }) ≡ sent k v (meaning a)
   placed new v new-is =
       let front = (λ i. take (start i) (taken i)) ∙ take-take at n (places a) (omega arith) in
-      let pushed = ap (take (at + 1)) new-is ∙ take-more-set (places a) at v free ∙ ap (λ l. l ++ (v ∷ [])) (sym front) in
+      let onto = ap (λ l. l ++ (v ∷ [])) (sym front) in
+      let pushed = ap (take (at + 1)) new-is ∙ take-more-set (places a) at v free ∙ onto in
       let long = ap length new-is ∙ length-set (places a) at v in
       let cells : length new - (at + 1) ≡ length (places a) - a .used + k - 1 = omega arith in
       λ i. record { list = pushed i; records = endless; cells = limited (cells i) }

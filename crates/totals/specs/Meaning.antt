@@ -1,10 +1,12 @@
 -- What totals mean, and what their calls keep of a caller's places.
 use mathlib.Core.Path.{_≡_, refl, _∙_}
 use mathlib.Core.List.{List}
-use Prim.Native.Nat.{_-_}
-use lib.ListN.{length, take}
+use Prim.Native.Nat.{ℕ, _-_}
+use lib.ListN.{length, take, drop, set}
 use denote.Ref.{name}
 use Rattle.sink.specs.Stacks.{Stack, endless, limited}
+use Rattle.measure.specs.declared.Measure as measures
+use Rattle.measure.specs.Joins.{joined}
 use Rattle.totals.specs.declared.Totals.{Totals}
 
 module _ {M : Type 0} where
@@ -18,6 +20,10 @@ module _ {M : Type 0} where
     records = endless;
     cells = limited (length (places t) - t .used);
   }
+
+  -- the join of the places from a to e goes into the place a
+  abbrev pub merged : measures.Ghosts M → List M → ℕ → ℕ → List M
+  merged m ps a e = set ps a (joined m (take (e - a) (drop a ps)))
 
   -- some places begin with a list
   abbrev pub Begins : List M → List M → Type 0

@@ -1,17 +1,18 @@
 //! Totals: a sink that measures trees, on a stack in a caller's slice.
 ghost use mathlib.Core.Path.{_≡_};
-ghost use Prim.Native.Nat.{_≤_, _<_, _-_, min};
-ghost use lib.ListN.{length, take, drop, set};
-ghost use Rattle.measure.specs.Joins.{joined, joining};
-ghost use Rattle.totals.specs.Meaning.{places as placesOf, meaning as meaningOf, Begins, Kept, kept-none, kept-more};
+ghost use Prim.Native.Nat.{_≤_, _<_, min};
+ghost use lib.ListN.{length};
+ghost use Rattle.measure.specs.Joins.{joining};
+ghost use Rattle.totals.specs.Meaning.{places as placesOf, meaning as meaningOf, merged};
+ghost use Rattle.totals.specs.Meaning.{Begins, Kept, kept-none, kept-more};
 use measure::Measure;
 use measure::join_all;
 use sink::Sink;
 use sink::SinkFault;
 use syntax::Token;
 
-/// A stack of measures in a caller's places, of which the first `used` are taken. A number above that of the places stands
-/// for all of them, so every value of this struct is a stack.
+/// A stack of measures in a caller's places, of which the first `used` are taken. A number above that of the places
+/// stands for all of them, so every value of this struct is a stack.
 #[derive(Drop)]
 pub struct Totals<'a, M> {
     pub(crate) places: &'a mut [M],
@@ -47,7 +48,7 @@ impl<'a, M> Totals<'a, M> {
 /// The join of the places `from` to `to` goes into the place `from`; all others stay.
 fn join_last<M: Measure + Copy>(places: &mut [M], from: usize, to: usize)
     requires { ⌜ from ≤ to ⌝ ∗ ⌜ to ≤ length (now places) ⌝ ∗ ⌜ from < length (now places) ⌝ }
-    ensures { λ _. ⌜ now (places .exit) ≡ set (now (places .entry)) from (joined M·Measure (take (to - from) (drop from (now (places .entry))))) ⌝ }
+    ensures { λ _. ⌜ now (places .exit) ≡ merged M·Measure (now (places .entry)) from to ⌝ }
 {
     let sum = join_all(&places[from..to]);
     places[from] = sum;

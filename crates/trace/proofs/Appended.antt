@@ -8,11 +8,11 @@ use lib.ListN.{length, take, drop, take-append-drop}
 use lib.Seq.{paste, take-paste, drop-paste, length-paste, take-take, take-at, drop-at, take-all}
 use denote.Ref.{name}
 use Rattle.std.proofs.shelf.Lists.{drop-take, length-take-le}
-use Rattle.sink.specs.Stacks.{endless, limited, sent, front, back}
+use Rattle.sink.specs.Stacks.{endless, limited, front, back}
 use Rattle.trace.specs.declared.Trace.{Trace}
 use Rattle.trace.specs.Records.{joined, places, record-at}
 use Rattle.trace.specs.Piles.{Pile, children, played, put, below, top, pile}
-use Rattle.trace.specs.Meaning.{bytes, written, listed, meaning}
+use Rattle.trace.specs.Meaning.{bytes, written, listed, meaning, appended}
 use Rattle.trace.specs.Grown.{Whole, Grown}
 use Rattle.trace.proofs.Piles.{length-top, split, front-top, back-top, top-put, joined-append}
 
@@ -62,7 +62,7 @@ module _ (d : List ℕ) (n : ℕ) (r : List ℕ) (free : n < places d) (sixteen 
       ap (λ m. pile m next) (add-one n) ∙ (λ i. played (here i) (same-pile n next d next-low i))
 
 -- one tree of the last k, with r behind them, keeps all that was joined
-rejoined : (k : ℕ) (ts : List (List ℕ)) (r : List ℕ) →
+pub rejoined : (k : ℕ) (ts : List (List ℕ)) (r : List ℕ) →
     joined (front k ts ++ ((joined (back k ts) ++ r) ∷ [])) ≡ joined ts ++ r
 rejoined k ts r =
     joined-append (front k ts) ((joined (back k ts) ++ r) ∷ [])
@@ -96,8 +96,8 @@ module _ (a b : Trace) (k : ℕ) (r : List ℕ)
       (λ i. top (trees i) (pile-is i)) ∙ top-put (listed a - k) (joined (top k was) ++ r) (below k was)
       ∙ sym (λ i. front-top (listed a) k was few i ++ ((joined (back-top (listed a) k was few i) ++ r) ∷ []))
 
-  pub appended : meaning b ≡ sent k (joined (back k ts) ++ r) (meaning a)
-  appended =
+  pub one-tree : meaning b ≡ appended k r (meaning a)
+  one-tree =
       let left : places (bytes b) - written b ≡ places (bytes a) - written a + 0 - 1 = omega (arith, long, one-more) in
       λ i. record { list = list-is i; records = limited (left i); cells = endless }
 

@@ -30,14 +30,14 @@ pub grown-none : (t : Trace) → Grown t t
 grown-none t = record { lent = refl; long = refl; more = omega arith; front = refl; behind = refl; whole = λ e. e }
 
 -- a front that two steps keep, and a rest that two steps keep
-front-twice : (xs ys zs : List ℕ) (m n : ℕ) → m ≤ n → take (16 * m) ys ≡ take (16 * m) xs → take (16 * n) zs ≡ take (16 * n) ys →
-    take (16 * m) zs ≡ take (16 * m) xs
+front-twice : (xs ys zs : List ℕ) (m n : ℕ) → m ≤ n →
+    take (16 * m) ys ≡ take (16 * m) xs → take (16 * n) zs ≡ take (16 * n) ys → take (16 * m) zs ≡ take (16 * m) xs
 front-twice xs ys zs m n h p q =
     let low : 16 * m ≤ 16 * n = omega arith in
     sym (take-take (16 * m) (16 * n) zs low) ∙ ap (take (16 * m)) q ∙ take-take (16 * m) (16 * n) ys low ∙ p
 
-behind-twice : (xs ys zs : List ℕ) (m n : ℕ) → m ≤ n → drop (16 * m) ys ≡ drop (16 * m) xs → drop (16 * n) zs ≡ drop (16 * n) ys →
-    drop (16 * n) zs ≡ drop (16 * n) xs
+behind-twice : (xs ys zs : List ℕ) (m n : ℕ) → m ≤ n →
+    drop (16 * m) ys ≡ drop (16 * m) xs → drop (16 * n) zs ≡ drop (16 * n) ys → drop (16 * n) zs ≡ drop (16 * n) xs
 behind-twice xs ys zs m n h p q =
     let far : 16 * m + (16 * n - 16 * m) ≡ 16 * n = omega arith in
     let on : (ws : List ℕ) → drop (16 * n) ws ≡ drop (16 * n - 16 * m) (drop (16 * m) ws) =
@@ -58,7 +58,7 @@ grown-more a b c p q = record {
 abbrev pub overlaid : List ℕ → List (List ℕ) → List ℕ
 overlaid bs pieces = joined pieces ++ drop (length (joined pieces)) bs
 
--- whatever calls led to t from a trace without records: the bytes are the trees of the list, record by record, and behind
--- these all is as it was
+-- whatever calls led to t from a trace without records: the bytes are the trees of the list, record by record, and
+-- behind these all is as it was
 abbrev pub Traced : Trace → Type 0
 Traced t = (start : Trace) → start .records ≡ 0 → Grown start t → bytes t ≡ overlaid (bytes start) (meaning t .list)

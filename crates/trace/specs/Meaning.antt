@@ -1,9 +1,9 @@
 -- What a trace means, whatever stands in its fields.
-use mathlib.Core.List.{List}
+use mathlib.Core.List.{List, _++_}
 use Prim.Native.Nat.{ℕ, _-_, min}
-use Rattle.sink.specs.Stacks.{Stack, endless, limited}
+use Rattle.sink.specs.Stacks.{Stack, endless, limited, back, sent}
 use Rattle.trace.specs.declared.Trace.{Trace}
-use Rattle.trace.specs.Records.{places}
+use Rattle.trace.specs.Records.{joined, places}
 use Rattle.trace.specs.Piles.{top, pile}
 
 abbrev pub bytes : Trace → List ℕ
@@ -24,3 +24,7 @@ meaning t = record {
   records = limited (places (bytes t) - written t);
   cells = endless;
 }
+
+-- a record r makes one tree of the last k, with itself behind them
+abbrev pub appended : ℕ → List ℕ → Stack (List ℕ) → Stack (List ℕ)
+appended k r s = sent k (joined (back k (s .list)) ++ r) s

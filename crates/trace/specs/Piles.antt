@@ -6,8 +6,8 @@ use lib.Dec.{eqb}
 use lib.ListN.{getD}
 use Rattle.trace.specs.Records.{letter-N, joined, record-at}
 
--- trees by depth, the topmost at 0. A pile has no end: below what was put on it lie empty pieces, so a record that asks
--- for more trees than there are finds those
+-- trees by depth, the topmost at 0. A pile has no end: below what was put on it lie empty pieces, which a record
+-- finds that asks for more trees than there are
 abbrev pub Pile : Type 0
 Pile = ℕ → List ℕ
 

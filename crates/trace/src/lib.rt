@@ -1,23 +1,23 @@
 //! The trace: a sink that writes the events of a reading as records of 16 bytes into a caller's bytes.
 ghost use mathlib.Core.Path.{_≡_};
-ghost use mathlib.Core.List.{List, _++_};
+ghost use mathlib.Core.List.{List};
 ghost use Prim.Native.Nat.{ℕ, _≤_, _<_, _+_};
 ghost use lib.ListN.{length};
 ghost use lib.Seq.{paste};
 ghost use denote.Ref.{now, name};
-ghost use Rattle.sink.specs.Stacks.{sent, back};
 ghost use Rattle.trace.specs.declared.Trace.{Trace};
-ghost use Rattle.trace.specs.Records.{leaf-record, node-record, joined, postfix, places};
+ghost use Rattle.trace.specs.Records.{leaf-record, node-record, postfix, places};
 ghost use Rattle.trace.specs.Piles.{children as childrenOf};
-ghost use Rattle.trace.specs.Meaning.{bytes as bytesOf, written as writtenOf, listed as listedOf, meaning as meaningOf};
+ghost use Rattle.trace.specs.Meaning.{bytes as bytesOf, written as writtenOf, listed as listedOf};
+ghost use Rattle.trace.specs.Meaning.{meaning as stackOf, appended};
 ghost use Rattle.trace.specs.Grown.{Grown, grown-none, grown-more, Traced};
 use sink::Sink;
 use sink::SinkFault;
 use syntax::Token;
 
-/// Events as records in a caller's bytes: `records` of them, which leave `trees` trees. A number above its bound stands for
-/// the bound, so every value of this struct is a trace: there are no more records than places, and no more trees than
-/// records.
+/// Events as records in a caller's bytes: `records` of them, which leave `trees` trees. A number above its bound
+/// stands for the bound, so every value of this struct is a trace: there are no more records than places, and no more
+/// trees than records.
 #[derive(Drop)]
 pub struct Trace<'a> {
     pub(crate) bytes: &'a mut [u8],
@@ -44,8 +44,8 @@ impl<'a> Trace<'a> {
         self.records.min(self.bytes.len() / 16)
     }
 
-    /// Hands the bytes back. From `new` on they are the trees of the list, record by record, and behind these all is as it
-    /// was.
+    /// Hands the bytes back. From `new` on they are the trees of the list, record by record, and behind these all is
+    /// as it was.
     pub fn finish(self) -> &'a mut [u8]
         ensures bytes { λ r. ⌜ r ≡ self .entry .bytes ⌝ }
         ensures records { λ _. ⌜ Traced (self .entry) ⌝ }
@@ -61,7 +61,7 @@ impl<'a> Trace<'a> {
     /// How many trees the records leave.
     fn listed(&self) -> usize
         ensures bound { λ r. ⌜ r ≡ listedOf (now (self .entry)) ⌝ }
-        ensures list { λ r. ⌜ r ≡ length (meaningOf (now (self .entry)) .list) ⌝ }
+        ensures list { λ r. ⌜ r ≡ length (stackOf (now (self .entry)) .list) ⌝ }
     {
         self.trees.min(self.written())
     }
@@ -71,7 +71,7 @@ impl<'a> Trace<'a> {
         requires room { ⌜ writtenOf (now self) < places (bytesOf (now self)) ⌝ }
         requires trees { ⌜ children ≤ listedOf (now self) ⌝ }
         requires children { ⌜ childrenOf event ≡ children ⌝ }
-        ensures after { λ _. ⌜ meaningOf (now (self .exit)) ≡ sent children (joined (back children (meaningOf (now (self .entry)) .list)) ++ event) (meaningOf (now (self .entry))) ⌝ }
+        ensures after { λ _. ⌜ stackOf (now (self .exit)) ≡ appended children event (stackOf (now (self .entry))) ⌝ }
         ensures memory { λ _. ⌜ Grown (now (self .entry)) (now (self .exit)) ⌝ }
     {
         let records = self.written();
@@ -143,7 +143,7 @@ pub impl<'a> Sink for Trace<'a> as TraceSink {
 
     ghost algebra = { postfix };
 
-    ghost meaning = { meaningOf };
+    ghost meaning = { stackOf };
 
     ghost grows = { Grown };
 

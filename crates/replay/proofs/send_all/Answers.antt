@@ -25,17 +25,21 @@ loop-event-again g c =
 pub returns : need.returns
 returns g c =
     let k = g .K·Sink in
-    let end = done (k .algebra) (k .meaning (c .loop-event .sink)) (c .args .events .now) _ (c .loop-event-test .left) in
+    let s = k .meaning (c .loop-event .sink) in
+    let end = done (k .algebra) s (c .args .events .now) (c .loop-event .event-index) (c .loop-event-test .left) in
     record { sent = sym end ∙ c .loop-event .inv .0; memory = c .loop-event .inv .1 }
 
 pub returns-in-Break-send : need.returns-in-Break-send
 returns-in-Break-send g c =
     let k = g .K·Sink in
     let s = c .loop-event .sink in
+    let es = c .args .events .now in
     let bad = c .in-Break-send .was tt in
     let told = err-from-errBy (c .from-residual .result) (c .from-residual .ensures .1) in
     let unmoved = c .send .ensures .refused (ap isErr bad) in
-    let end = ends (k .algebra) (k .meaning s) (c .args .events .now) (c .loop-event .event-index) _ (c .loop-event-test .taken) _ (sym (c .send .ensures .answer) ∙ bad) in
+    let refused = sym (c .send .ensures .answer) ∙ bad in
+    let within = c .loop-event-test .taken in
+    let end = ends (k .algebra) (k .meaning s) es (c .loop-event .event-index) _ within _ refused in
     record {
       sent = (λ i. ((told .1 ∙ ap Err (told .2)) i, k .meaning (unmoved i))) ∙ sym end ∙ c .loop-event .inv .0;
       memory = k .onward _ s _ (c .loop-event .inv .1) (c .send .ensures .memory);

@@ -8,4 +8,5 @@ abbrev pub Inv-loop-event : given.InvT-loop-event
 Inv-loop-event g l =
     let k = g .K·Sink in
     let all = sent-all (k .algebra) (l .events) (k .meaning (l .entry .sink)) in
-    (sent-all (k .algebra) (drop (l .event-index) (l .events)) (k .meaning (l .sink)) ≡ all) × k .grows (l .entry .sink) (l .sink)
+    let rest = sent-all (k .algebra) (drop (l .event-index) (l .events)) (k .meaning (l .sink)) in
+    (rest ≡ all) × k .grows (l .entry .sink) (l .sink)

@@ -10,7 +10,8 @@ loop-token-holds g c = rw (c .unit-sum .ensures) (g .M·Measure·met .«unit_lef
 pub loop-token-again : need.loop-token-again
 loop-token-again g c =
     let m = g .M·Measure in
-    let more = at-drop-more (λ ts. m .join (c .loop-token .sum) (over-leaves m ts)) _ _ _ (c .loop-token-test .taken) in
+    let within = c .loop-token-test .taken in
+    let more = at-drop-more (λ ts. m .join (c .loop-token .sum) (over-leaves m ts)) _ _ _ within in
     rw (c .join-sum .ensures, c .of .ensures) (g .M·Measure·met .associative _ _ _ ∙ sym more ∙ c .loop-token .inv)
 
 pub returns : need.returns

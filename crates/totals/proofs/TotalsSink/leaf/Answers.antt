@@ -14,8 +14,9 @@ returns g c =
     let at = c .height-at .result in
     let R = joining (g .M·Measure) in
     let t = c .args .token in
-    let room = room a at 0 at (c .height-at .ensures .places) (omega arith) (omega arith) (omega arith) in
-    let placed = placed a at 0 at (c .height-at .ensures .places) (omega arith) (omega arith) (omega arith) _ (c .of .result) refl in
+    let height = c .height-at .ensures .places in
+    let room = room a at 0 at height (omega arith) (omega arith) (omega arith) in
+    let placed = placed a at 0 at height (omega arith) (omega arith) (omega arith) _ (c .of .result) refl in
     record {
       answer = leaf-ok R (meaning a) t room;
       after = leaf-done R (meaning a) t room (c .of .ensures) placed;

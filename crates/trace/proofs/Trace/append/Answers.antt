@@ -5,7 +5,7 @@ use lib.ListN.{length}
 use lib.Seq.{paste}
 use denote.Ref.{at-last}
 use Rattle.trace.specs.declared.Trace.{Trace}
-use Rattle.trace.proofs.Appended.{appended, grown}
+use Rattle.trace.proofs.Appended.{one-tree, grown}
 use Rattle.trace.proofs.Trace.append.Needs as need
 
 pub returns : need.returns
@@ -19,10 +19,11 @@ returns c =
       records = c .written-records .result + 1;
       trees = c .listed-trees .result - k + 1;
     } in
-    let bytes = c .write-record .ensures ∙ ap (λ n. paste (a .bytes .now) (16 * n) r 16) (c .written-records .ensures) in
-    let records = ap (λ n. n + 1) (c .written-records .ensures) in
+    let place = c .written-records .ensures in
+    let bytes = c .write-record .ensures ∙ ap (λ n. paste (a .bytes .now) (16 * n) r 16) place in
+    let records = ap (λ n. n + 1) place in
     let trees = ap (λ n. n - k + 1) (c .listed-trees .ensures .bound) in
     record {
-      after = appended a b k r (c .pre .room) (c .pre .trees) sixteen (c .pre .children) bytes records trees;
+      after = one-tree a b k r (c .pre .room) (c .pre .trees) sixteen (c .pre .children) bytes records trees;
       memory = grown a b k r (c .pre .room) (c .pre .trees) sixteen (c .pre .children) bytes records trees refl;
     }

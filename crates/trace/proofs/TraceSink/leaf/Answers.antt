@@ -14,10 +14,11 @@ pub returns : need.returns
 returns c =
     let a = c .args .self .now in
     let room : full 0 (meaning a) ≡ false = grind (arith, tells) in
+    let t = c .args .token in
     let alone = ap (λ l. joined l ++ c .leaf-record .result) (drop-all _ (meaning a .list) (omega arith)) in
     record {
-      answer = leaf-ok postfix (meaning a) (c .args .token) room;
-      after = leaf-done postfix (meaning a) (c .args .token) room (alone ∙ c .leaf-record .ensures) (c .append .ensures .after);
+      answer = leaf-ok postfix (meaning a) t room;
+      after = leaf-done postfix (meaning a) t room (alone ∙ c .leaf-record .ensures) (c .append .ensures .after);
       memory = c .append .ensures .memory;
       refused = λ e. absurd (false≢true e);
     }
