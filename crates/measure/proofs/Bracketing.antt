@@ -2,8 +2,8 @@
 use mathlib.Core.Path.{_≡_, refl, sym, ap, _∙_}
 use mathlib.Core.List.{List, [], _∷_, _++_, map}
 use Rattle.std.proofs.shelf.Lists.{map-append}
-use Rattle.syntax.specs.Trees.{Tree, leaf, node, Forest, no-tree, tree-then, text, texts}
-use Rattle.syntax.specs.Values.{read, reads}
+use Rattle.syntax.specs.Trees.{leaf, node, Forest, no-tree, tree-then, text, texts}
+use Rattle.syntax.specs.Values.{reads}
 use Rattle.measure.specs.declared.Measure as measures
 use Rattle.measure.specs.Joins.{joined, joining, over-leaves, Bracketing}
 

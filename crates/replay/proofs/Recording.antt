@@ -1,5 +1,5 @@
 -- What a trace without records means.
-use mathlib.Core.Path.{_≡_, ap}
+use mathlib.Core.Path.{_≡_}
 use Prim.Native.Nat.{ℕ, _-_, min}
 use native.Mathlib.Omega.{arith}
 use Rattle.sink.specs.Stacks.{endless, limited}

@@ -1,9 +1,7 @@
 -- One event more, and the event that ends it.
-use mathlib.Core.Path.{_≡_, refl, sym, ap, _∙_}
-use mathlib.Core.Bool.{Bool, true, false, cond, _||_}
-use mathlib.Core.List.{List, [], _∷_}
+use mathlib.Core.Path.{_≡_, ap, _∙_}
+use mathlib.Core.List.{List}
 use Prim.Native.Nat.{ℕ, _+_, _<_, _≤_}
-use native.Mathlib.Omega.{arith}
 use lib.ListN.{length, drop, getD}
 use Rattle.std.proofs.shelf.Lists.{at-drop-more, at-drop-all}
 use Rattle.std.specs.declared.result.Result.the-variants.{Ok, Err}
@@ -11,7 +9,7 @@ use Rattle.syntax.specs.Values.{Algebra}
 use Rattle.sink.specs.declared.SinkFault.{SinkFault}
 use Rattle.sink.specs.Stacks.{Stack}
 use Rattle.replay.specs.declared.Event.{Event}
-use Rattle.replay.specs.Events.{Answer, next, answer, after, sent-all}
+use Rattle.replay.specs.Events.{next, answer, after, sent-all}
 
 module _ {V : Type 0} (R : Algebra V) (s : Stack V) (es : List Event) (i : ℕ) where
   module _ (d : Event) (within : i < length es) where

@@ -1,6 +1,5 @@
 //! Sinks: what takes the events of a reading, a leaf for each token and a node for each reduction.
 ghost use mathlib.Core.Path.{_≡_};
-ghost use Prim.Native.Nat.{ℕ};
 ghost use lib.ListN.{length};
 ghost use mathlib.Core.Bool.{true};
 ghost use Rattle.std.specs.Results.{isErr};

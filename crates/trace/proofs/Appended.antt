@@ -14,7 +14,7 @@ use Rattle.trace.specs.Records.{joined, places, record-at}
 use Rattle.trace.specs.Piles.{Pile, children, played, put, below, top, pile}
 use Rattle.trace.specs.Meaning.{bytes, written, listed, meaning, appended}
 use Rattle.trace.specs.Grown.{Whole, Grown}
-use Rattle.trace.proofs.Piles.{length-top, split, front-top, back-top, top-put, joined-append}
+use Rattle.trace.proofs.Piles.{front-top, back-top, top-put, joined-append}
 
 -- records that stand leave the pile that they left
 same-pile : (n : ℕ) (cs bs : List ℕ) → take (16 * n) cs ≡ take (16 * n) bs → pile n cs ≡ pile n bs

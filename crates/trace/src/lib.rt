@@ -4,7 +4,7 @@ ghost use mathlib.Core.List.{List};
 ghost use Prim.Native.Nat.{ℕ, _≤_, _<_, _+_};
 ghost use lib.ListN.{length};
 ghost use lib.Seq.{paste};
-ghost use denote.Ref.{now, name};
+ghost use denote.Ref.{now};
 ghost use Rattle.trace.specs.declared.Trace.{Trace};
 ghost use Rattle.trace.specs.Records.{leaf-record, node-record, postfix, places};
 ghost use Rattle.trace.specs.Piles.{children as childrenOf};

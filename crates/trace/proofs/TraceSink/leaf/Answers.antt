@@ -1,10 +1,10 @@
-use mathlib.Core.Path.{_≡_, sym, ap, _∙_}
+use mathlib.Core.Path.{_≡_, ap, _∙_}
 use mathlib.Core.Bool.{false, false≢true}
-use mathlib.Core.List.{[], _++_}
+use mathlib.Core.List.{_++_}
 use native.Mathlib.Omega.{arith}
 use Rattle.std.proofs.shelf.Lists.{drop-all}
 use Rattle.std.proofs.shelf.Ways.{tells}
-use Rattle.sink.specs.Stacks.{full, back}
+use Rattle.sink.specs.Stacks.{full}
 use Rattle.sink.proofs.Taken.{leaf-ok, leaf-done}
 use Rattle.trace.specs.Records.{joined, postfix}
 use Rattle.trace.specs.Meaning.{meaning}
