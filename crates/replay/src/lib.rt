@@ -2,6 +2,7 @@
 ghost use mathlib.Core.Path.{_≡_};
 ghost use mathlib.Core.Bool.{true};
 ghost use Rattle.std.specs.Results.{isErr};
+ghost use Rattle.sink.specs.Stacks.{capacity};
 ghost use Rattle.replay.specs.Events.{answer as answerOf, after as afterOf, Sent};
 use sink::Sink;
 use sink::SinkFault;
@@ -19,9 +20,11 @@ pub enum Event {
     Node { production: u8, children: u8 },
 }
 
+/// Sends one event. Whatever its answer, the sink can hold as many values as before.
 pub fn send<K: Sink>(sink: &mut K, event: Event) -> Result<(), SinkFault>
     ensures answer { λ r. ⌜ r ≡ answerOf event (meaning (now (sink .entry))) ⌝ }
     ensures after { λ _. ⌜ meaning (now (sink .exit)) ≡ afterOf algebra event (meaning (now (sink .entry))) ⌝ }
+    ensures capacity { λ _. ⌜ capacity (meaning (now (sink .exit))) ≡ capacity (meaning (now (sink .entry))) ⌝ }
     ensures memory { λ _. ⌜ grows (now (sink .entry)) (now (sink .exit)) ⌝ }
     ensures refused { λ r. ⌜ (isErr r ≡ true → now (sink .exit) ≡ now (sink .entry)) ⌝ }
 {
