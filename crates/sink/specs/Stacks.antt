@@ -33,6 +33,11 @@ abbrev pub recount : ℕ → Count → Count
 recount k endless = endless
 recount k (limited n) = limited ((n + k) - 1)
 
+-- k and how many more
+abbrev pub more : ℕ → Count → Count
+more k endless = endless
+more k (limited n) = limited (n + k)
+
 -- all but the last k, and the last k
 abbrev pub front : {A : Type 0} → ℕ → List A → List A
 front k xs = take (length xs - k) xs
@@ -52,6 +57,10 @@ module _ {V : Type 0} where
     records = recount 0 (s .records);
     cells = recount k (s .cells);
   }
+
+  -- how many values it can hold, those of the list among them
+  abbrev pub capacity : Stack V → Count
+  capacity s = more (length (s .list)) (s .cells)
 
   abbrev pub leaf-answer : Stack V → Result (Unit {0}) SinkFault
   leaf-answer s = cond (full 0 s) (Err (Full (length (s .list)))) (Ok tt)

@@ -1,11 +1,16 @@
 //! Sinks: what takes the events of a reading, a leaf for each token and a node for each reduction.
 ghost use mathlib.Core.Path.{_≡_};
-ghost use Prim.Native.Nat.{ℕ};
 ghost use lib.ListN.{length};
+ghost use mathlib.Core.Bool.{true};
+ghost use Rattle.std.specs.Results.{isErr};
 ghost use Rattle.syntax.specs.Values.{Algebra};
 ghost use Rattle.sink.specs.Stacks.{Stack, leaf-answer, leaf-after, node-answer, node-after};
 ghost use Rattle.sink.specs.Faults.{number as numberOf, place as placeOf};
 use syntax::Token;
+
+mod lent;
+
+pub use lent::LentSink;
 
 /// Why a sink refuses an event, with the length of its list.
 #[derive(Clone, Copy, PartialEq, Eq, Debug)]
@@ -57,11 +62,13 @@ pub trait Sink {
     fn leaf(&mut self, token: Token) -> Result<(), SinkFault>
         ensures answer { λ r. ⌜ r ≡ leaf-answer (meaning (now (self .entry))) ⌝ }
         ensures after { λ _. ⌜ meaning (now (self .exit)) ≡ leaf-after algebra token (meaning (now (self .entry))) ⌝ }
-        ensures memory { λ _. ⌜ grows (now (self .entry)) (now (self .exit)) ⌝ };
+        ensures memory { λ _. ⌜ grows (now (self .entry)) (now (self .exit)) ⌝ }
+        ensures refused { λ r. ⌜ (isErr r ≡ true → now (self .exit) ≡ now (self .entry)) ⌝ };
 
     /// Replaces the last `children` values by the value of a node over them.
     fn node(&mut self, production: u8, children: u8) -> Result<(), SinkFault>
         ensures answer { λ r. ⌜ r ≡ node-answer children (meaning (now (self .entry))) ⌝ }
         ensures after { λ _. ⌜ meaning (now (self .exit)) ≡ node-after algebra production children (meaning (now (self .entry))) ⌝ }
-        ensures memory { λ _. ⌜ grows (now (self .entry)) (now (self .exit)) ⌝ };
+        ensures memory { λ _. ⌜ grows (now (self .entry)) (now (self .exit)) ⌝ }
+        ensures refused { λ r. ⌜ (isErr r ≡ true → now (self .exit) ≡ now (self .entry)) ⌝ };
 }

@@ -1,0 +1,4 @@
+pub mod Grown
+pub mod Meaning
+pub mod Piles
+pub mod Records
