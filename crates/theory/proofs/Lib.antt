@@ -1,0 +1,4 @@
+pub mod Clash
+pub mod Moves
+pub mod Natural
+pub mod View
