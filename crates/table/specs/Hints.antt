@@ -51,7 +51,7 @@ deepest = 8
 abbrev pub added : ℕ
 added = 254
 
-abbrev right-of : Option Rule → Option (List Symbol)
+abbrev pub right-of : Option Rule → Option (List Symbol)
 right-of None = None
 right-of (Some r) = Some (r .right)
 
@@ -63,7 +63,7 @@ right-side G p = cond (eqb p added) (Some (start ∷ [])) (right-of (G p))
 abbrev pub Behind : Grammar → ℕ → ℕ → List Symbol → Type 0
 Behind G p d γ = (α : List Symbol) × (right-side G p ≡ Some α) × (drop d α ≡ γ)
 
-abbrev incoming-list : Option Symbol → List Symbol
+abbrev pub incoming-list : Option Symbol → List Symbol
 incoming-list None = []
 incoming-list (Some X) = X ∷ []
 

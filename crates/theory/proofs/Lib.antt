@@ -1,4 +1,9 @@
+pub mod Built
 pub mod Clash
+pub mod Hinted
 pub mod Moves
 pub mod Natural
+pub mod Safety
+pub mod Sound
+pub mod Symbols
 pub mod View
