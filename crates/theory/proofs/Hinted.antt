@@ -137,9 +137,6 @@ module _ (M : Automaton) (H : Hints) where
       simp (reverse-reverse, length-reverse) at up
 
 module _ {states : ℕ} (M : Automaton) (safely : SafeSomehow states M) where
-  hints : Hints
-  hints = safely .hints
-
   pushed : (ss : List ℕ) (t : ℕ) (X : Symbol) → Edge M (current ss) t → M .incoming t ≡ Some X →
       Hinted M (safely .hints) ss → Hinted M (safely .hints) (t ∷ ss)
   pushed ss t X edge e S =

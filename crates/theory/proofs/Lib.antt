@@ -1,8 +1,10 @@
 pub mod Built
 pub mod Clash
+pub mod Firsts
 pub mod Hinted
 pub mod Moves
 pub mod Natural
+pub mod Completeness
 pub mod Safety
 pub mod Sound
 pub mod Symbols
