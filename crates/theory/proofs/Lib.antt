@@ -2,9 +2,11 @@ pub mod Built
 pub mod Clash
 pub mod Firsts
 pub mod Hinted
+pub mod Hopeless
 pub mod Moves
 pub mod Natural
 pub mod Completeness
+pub mod Onward
 pub mod Safety
 pub mod Sound
 pub mod Symbols
