@@ -14,7 +14,6 @@ use Rattle.table.specs.Automaton.{Automaton}
 use Rattle.table.specs.Lawful.{State}
 
 infix 50 _∈_ _⊆_
-
 -- a set of states, of terminals or of nonterminals
 abbrev pub Set : Type 0
 Set = ℕ → Bool

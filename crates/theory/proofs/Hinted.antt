@@ -121,7 +121,7 @@ module _ (M : Automaton) (H : Hints) where
   carried-down (X ∷ α) (s ∷ ss) A le S =
       let (Y, e) = S .0 in
       let both : (X ≡ Y) × Agree α (symbols M ss) =
-            subst (λ (o : Option Symbol). Agree (X ∷ α) (incoming-list o ++ symbols M ss)) e A in
+      subst (λ (o : Option Symbol). Agree (X ∷ α) (incoming-list o ++ symbols M ss)) e A in
       let entered = enters-own X (M .incoming s) (e ∙ ap {B = Option Symbol} Some (sym (both .0))) in
       and-from (enters X (M .incoming s)) (carry M (take (length α) ss) α) entered
       (carried-down α ss (both .1) (omega arith) (S .3))
@@ -144,9 +144,12 @@ module _ {states : ℕ} (M : Automaton) (safely : SafeSomehow states M) where
       let s = current ss in
       let ends = safely .safe .edge-symbols s t edge in
       let covers = safely .safe .edge-sets s t edge in
-      let root = safely .hints-lawful .initial-sets in
-      ((X, e), agree-end (H .past-symbols t) (trail M H s) (symbols M ss) ends (trail-agrees M H ss S),
-        covers-hold (H .past-sets t) (shadow H s) ss covers (shadow-holds M H root ss S), S)
+      let root = safely .hints-lawful .initial-sets in (
+        (X, e),
+        agree-end (H .past-symbols t) (trail M H s) (symbols M ss) ends (trail-agrees M H ss S),
+        covers-hold (H .past-sets t) (shadow H s) ss covers (shadow-holds M H root ss S),
+        S,
+      )
 
   module _ {V : Type 0} (R : Algebra V) (ended : Bool) where
     move-hinted : (c d : Core V) → Hinted M (safely .hints) (c .cells) → move R M ended c ≡ on d →

@@ -85,11 +85,11 @@ module _ {V : Type 0} (R : Algebra V) (M : Automaton) where
         taken = x ++ y;
         rest-is = whole ∙ sym (append-assoc x y (d .rest));
         again = λ ended′ r h.
-          let sight = seen-behind x ended′ ended (y ++ r) (y ++ d .rest) (seen-behind y ended′ ended r (d .rest) h) in
-          let here = ap (found M s) (sight ∙ ap (seen ended) (sym whole)) in
-          let first = ap (perform R M (with-rest c (x ++ (y ++ r)))) here ∙ same (y ++ r) in
-          let regroup = ap (λ z. moves R M ended′ (suc n) (with-rest c z)) (append-assoc x y r) in
-          regroup ∙ ap (λ m. and-then m (λ z. moves R M ended′ n z)) first ∙ P .again ended′ r h;
+            let sight = seen-behind x ended′ ended (y ++ r) (y ++ d .rest) (seen-behind y ended′ ended r (d .rest) h) in
+            let here = ap (found M s) (sight ∙ ap (seen ended) (sym whole)) in
+            let first = ap (perform R M (with-rest c (x ++ (y ++ r)))) here ∙ same (y ++ r) in
+            let regroup = ap (λ z. moves R M ended′ (suc n) (with-rest c z)) (append-assoc x y r) in
+            regroup ∙ ap (λ m. and-then m (λ z. moves R M ended′ n z)) first ∙ P .again ended′ r h;
       }
 
 module _ {V : Type 0} (R : Algebra V) (M : Automaton) (all : ReadsAll R M) where
@@ -114,8 +114,8 @@ rejects-the-hopeless V M R all ended n u r c e er rejects-it =
     let none = refused R M all ended n u r c e er rejects-it in
     record {
       token-refused = λ k w is l v same m.
-        none (l ∷ v) (ap {B = Option ℕ} Some same ∙ ap (seen ended) (sym is)) m;
+          none (l ∷ v) (ap {B = Option ℕ} Some same ∙ ap (seen ended) (sym is)) m;
       end-refused = λ is-ended is m.
-        none [] (ap (λ b. seen b []) (sym is-ended) ∙ ap (seen ended) (sym is))
-        (subst (Makes (M .grammar)) (sym (append-nil u)) m);
+          none [] (ap (λ b. seen b []) (sym is-ended) ∙ ap (seen ended) (sym is))
+          (subst (Makes (M .grammar)) (sym (append-nil u)) m);
     }

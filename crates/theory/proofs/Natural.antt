@@ -78,7 +78,7 @@ module _ {V W : Type 0} (M : Automaton) (R : Algebra V) (S : Algebra W) (h : V �
   moves-natural ended (suc n) c =
       ap (λ m. and-then m (λ d. moves S M ended n d)) (move-natural ended c)
       ∙ then-natural (move R M ended c) (λ d. moves R M ended n d) (λ d. moves S M ended n d)
-          (λ d. moves-natural ended n d)
+      (λ d. moves-natural ended n d)
 
 pub natural : (V W : Type 0) → Natural V W
 natural V W M R S h H = moves-natural M R S h H
