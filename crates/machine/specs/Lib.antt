@@ -1,0 +1,4 @@
+pub mod Calls
+pub mod Promise
+pub mod Reading
+pub mod Runs
