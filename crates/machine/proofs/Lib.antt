@@ -1,0 +1,4 @@
+pub mod Alike
+pub mod Counts
+pub mod Tracks
+pub mod Turned

@@ -1,0 +1,301 @@
+-- A reading follows the machine without bounds, step by step, and where it ends by itself it has a reason.
+use mathlib.Core.Path.{_≡_, refl, sym, ap, ap₂, subst, _∙_}
+use mathlib.Core.Bool.{Bool, true, false, cond, _&&_, _||_}
+use mathlib.Core.List.{List, [], _∷_, _++_, reverse}
+use mathlib.Core.Logic.{_⊎_, inl, inr}
+use Prim.Native.Nat.{ℕ, suc, _+_, _≤_, _<_}
+use native.Mathlib.Omega.{arith}
+use lib.Dec.{eqb, leb, ltb}
+use lib.ListN.{length, take, drop}
+use Rattle.std.proofs.shelf.Lists.{length-append, length-reverse, length-drop}
+use Rattle.std.proofs.shelf.Tests.{eqb-true, leb-true, leb-false, le-ltb, cases-lt, and-parts, and-left, or-cases, or-parts}
+use Rattle.std.specs.declared.option.Option.{Option}
+use Rattle.std.specs.declared.option.Option.the-variants.{Some, None}
+use Rattle.std.specs.declared.result.Result.{Result}
+use Rattle.std.specs.declared.result.Result.the-variants.{Ok, Err}
+use Rattle.syntax.specs.declared.Token.{Token}
+use Rattle.syntax.specs.Grammar.{Rule}
+use Rattle.syntax.specs.Values.{Algebra}
+use Rattle.table.specs.declared.Action.{Action}
+use Rattle.table.specs.declared.Action.the-variants.{Shift, Reduce, Accept, Reject}
+use Rattle.table.specs.Automaton.{Automaton}
+use Rattle.theory.specs.Machine.{Core, core, fresh, current, Move, on, accepts, rejects, slips, carry-start, with-node}
+use Rattle.theory.specs.Machine.{landing-of, shift-to, land, reduce-by, accept-with, perform, move, moves}
+use Rattle.theory.specs.Theorems.{Within}
+use Rattle.theory.proofs.View.{same-core, Works, shift-works, reduce-works, Landed, has-landed}
+use Rattle.theory.proofs.Moves.{moves-more, moves-level}
+use Rattle.source.specs.declared.SourceFault.{SourceFault}
+use Rattle.source.specs.Streams.{end, fault, Stream, rest, dropped}
+use Rattle.sink.specs.declared.SinkFault.{SinkFault}
+use Rattle.sink.specs.declared.SinkFault.the-variants.{Full, TooFewTrees}
+use Rattle.sink.specs.Stacks.{Count, Stack, spent, recount, front, back, full, sent}
+use Rattle.outcome.specs.declared.Halt.the-variants.{Source, Sink, Cells, Slip}
+use Rattle.outcome.specs.declared.Outcome.{Outcome}
+use Rattle.outcome.specs.declared.Outcome.the-variants.{More, Accepted, Rejected, Halted, Stopped}
+use Rattle.machine.specs.Reading.{State, most-cells, place-of-next, found-in, settled, stepped, sent-to, if-room}
+use Rattle.machine.specs.Reading.{halt, landing-from, found, last-of, shifting, going, reducing, step-by, step}
+use Rattle.machine.specs.Runs.{AtMost}
+use Rattle.machine.proofs.Alike.{ends, without-fault, stream-of, found-alike, found-fault, found-reject}
+use Rattle.machine.proofs.Alike.{landing-alike, start-alike}
+use Rattle.machine.proofs.Counts.{Left, left-at-most, spent-at-most, left-on, room, in-room}
+use Rattle.machine.proofs.Turned.{pushed, front-turned, back-turned, last-turned}
+
+module _ {V : Type 0} (R : Algebra V) (M : Automaton) (stream : Stream) (K : Stack V) where
+  -- the reading where the machine is at c, after n steps, with what is left of the sink's records and cells
+  abbrev pub at : Core V → Count → Count → ℕ → Outcome → State V
+  at c a b n o = record {
+    table = M;
+    cells = reverse (c .cells);
+    stack = record { list = K .list ++ reverse (c .values); records = a; cells = b };
+    stream = stream-of (c .rest) (stream .ending);
+    steps = n;
+    outcome = o;
+  }
+
+  abbrev pub next-move : Core V → Move V
+  next-move c = move R M (ends (stream .ending)) c
+
+  -- n steps and the counts left are those of n moves that led to c
+  pub record Tracks (c : Core V) (a b : Count) (n : ℕ) : Type 0 where
+    pub moved : moves R M (ends (stream .ending)) n (fresh (stream .tokens)) ≡ on c
+    pub records-left : Left (K .records) n a
+    pub cells-left : Left (K .cells) (length (c .cells)) b
+    pub high : Within R M (ends (stream .ending)) (stream .tokens) n (room (K .cells))
+
+  -- why a reading at c ended by itself after n steps
+  abbrev pub Reason : Outcome → Core V → ℕ → Type 0
+  Reason More c n = ⊥
+  Reason Accepted c n = next-move c ≡ accepts
+  Reason (Rejected p) c n =
+      (next-move c ≡ rejects) × (p ≡ place-of-next (c .rest)) × (c .rest ≡ [] → stream .ending ≡ end)
+  Reason (Halted (Source f)) c n = stream .ending ≡ fault f
+  Reason (Halted (Sink (Full m))) c n =
+      (d : Core V) × (next-move c ≡ on d)
+      × ((AtMost (suc n) (K .records) → ⊥) ⊎ (AtMost (length (d .cells)) (K .cells) → ⊥))
+  Reason (Halted (Sink (TooFewTrees m))) c n = ⊥
+  Reason (Halted (Cells m)) c n = (d : Core V) × (next-move c ≡ on d) × (most-cells < length (d .cells))
+  Reason (Halted (Slip k)) c n = next-move c ≡ slips k
+  Reason Stopped c n = ⊥
+
+  -- r is one step on, still tracking
+  abbrev pub WentOn : ℕ → State V → Type 0
+  WentOn n r = (d : Core V) × (a b : Count) × (r ≡ at d a b (n + 1) More) × Tracks d a b (n + 1)
+
+  abbrev pub Stepped : Core V → Count → Count → ℕ → State V → Type 0
+  Stepped c a b n r = WentOn n r ⊎ ((o : Outcome) × (r ≡ at c a b n o) × Reason o c n)
+
+  -- a reading with the parts of one that tracks d
+  same-parts : (d : Core V) (a b : Count) (n : ℕ) (ss : List ℕ) (vs : List V) (w : List Token) →
+      ss ≡ reverse (d .cells) → vs ≡ K .list ++ reverse (d .values) → w ≡ d .rest →
+      _≡_ {A = State V} (record {
+        table = M;
+        cells = ss;
+        stack = record { list = vs; records = a; cells = b };
+        stream = stream-of w (stream .ending);
+        steps = n;
+        outcome = More;
+      }) (at d a b n More)
+  same-parts d a b n ss vs w e f g = λ i. record {
+    table = M;
+    cells = e i;
+    stack = record { list = f i; records = a; cells = b };
+    stream = stream-of (g i) (stream .ending);
+    steps = n;
+    outcome = More;
+  }
+
+  within-more : (n L : ℕ) (d : Core V) → Within R M (ends (stream .ending)) (stream .tokens) n L →
+      moves R M (ends (stream .ending)) (n + 1) (fresh (stream .tokens)) ≡ on d → length (d .cells) ≤ L →
+      Within R M (ends (stream .ending)) (stream .tokens) (n + 1) L
+  within-more n L d W h le m c lm hm = go (cases-lt m (n + 1))
+    where
+      go : (suc m ≤ n + 1) ⊎ (n + 1 ≤ m) → length (c .cells) ≤ L
+      go (inl l) = W m c (omega arith) hm
+      go (inr g) =
+          let same : m ≡ n + 1 = omega arith in
+          let there = ap (λ k. moves R M (ends (stream .ending)) k (fresh (stream .tokens))) (sym same) in
+          subst (λ (x : Core V). length (x .cells) ≤ L) (same-core d c (sym h ∙ there ∙ hm)) le
+
+  module _ (c : Core V) (a b : Count) (n : ℕ) (T : Tracks c a b n) where
+    level : length (c .values) ≡ length (c .cells)
+    level = moves-level R M (ends (stream .ending)) n (stream .tokens) c (T .moved)
+
+    -- an event with k children finds the sink full
+    abbrev no-room : ℕ → Bool
+    no-room k = spent a || (spent b && eqb k 0)
+
+    -- an event with k children, by which the machine goes on to d
+    module _ (k : ℕ) (d : Core V) (goes : next-move c ≡ on d) (grows : length (d .cells) + k ≡ length (c .cells) + 1) where
+      tracks-on : length (d .cells) ≤ most-cells → no-room k ≡ false → Tracks d (recount 0 a) (recount k b) (n + 1)
+      tracks-on low free =
+          let (records, cells) = or-parts (spent a) (spent b && eqb k 0) free in
+          let moved = moves-more R M (ends (stream .ending)) n (fresh (stream .tokens)) c (on d) (T .moved) goes in
+          let cells-left = left-on (K .cells) (length (c .cells)) (length (d .cells)) k b (T .cells-left) cells grows in
+          let in-sink = left-at-most (K .cells) (length (d .cells)) (recount k b) cells-left in
+          let high = in-room (K .cells) (length (d .cells)) low in-sink in
+          record {
+            moved = moved;
+            records-left = left-on (K .records) n (n + 1) 0 a (T .records-left) (and-left (spent a) true records) (omega arith);
+            cells-left = cells-left;
+            high = within-more n (room (K .cells)) d (T .high) moved high;
+          }
+
+      sink-reason : (m : ℕ) → no-room k ≡ true → Reason (Halted (Sink (Full m))) c n
+      sink-reason m f = (d, goes, go (or-cases (spent a) (spent b && eqb k 0) f))
+        where
+          go : (spent a ≡ true) ⊎ ((spent b && eqb k 0) ≡ true) →
+              (AtMost (suc n) (K .records) → ⊥) ⊎ (AtMost (length (d .cells)) (K .cells) → ⊥)
+          go (inl h) = inl (spent-at-most (K .records) n a (T .records-left) h)
+          go (inr h) =
+              let (none, bare) = and-parts (spent b) (eqb k 0) h in
+              let childless = eqb-true k 0 bare in
+              let one-more : suc (length (c .cells)) ≡ length (d .cells) = omega arith in
+              let full-cells = spent-at-most (K .cells) (length (c .cells)) b (T .cells-left) none in
+              inr (subst (λ (x : ℕ). AtMost x (K .cells) → ⊥) one-more full-cells)
+
+      module _ (m : ℕ) (ss : List ℕ) (stack : Stack V) (to-come : Stream)
+          (long : length ss ≡ length (d .cells))
+          (there : stepped ss stack to-come (at c a b n More) ≡ at d (recount 0 a) (recount k b) (n + 1) More) where
+        abbrev next : Bool → State V
+        next f = stepped ss (cond f (at c a b n More .stack) stack) to-come (at c a b n More)
+
+        -- a cell too many, then a full sink, then the step
+        tried : Stepped c a b n (if-room (cond (no-room k) (Err (Full m)) (Ok tt)) (at c a b n More) (next (no-room k)))
+        tried = go (leb (length ss) most-cells) refl (no-room k) refl
+          where
+            go : (x : Bool) → leb (length ss) most-cells ≡ x → (f : Bool) → no-room k ≡ f → Stepped c a b n
+                (cond x (sent-to (cond f (Err (Full m)) (Ok tt)) (at c a b n More) (next f))
+                (halt (at c a b n More) (Cells n)))
+            go true low true f = inr (Halted (Sink (Full m)), refl, sink-reason m f)
+            go true low false f =
+                let le = leb-true (length ss) most-cells low in
+                inl (d, recount 0 a, recount k b, there, tracks-on (omega arith) f)
+            go false high f h =
+                let lt = leb-false (length ss) most-cells high in
+                inr (Halted (Cells n), refl, (d, goes, omega arith))
+
+    shift-steps : (t : ℕ) (w : List Token) → c .rest ≡ w → next-move c ≡ shift-to R t (c .cells) (c .values) w →
+        Stepped c a b n (shifting R t (at c a b n More) w)
+    shift-steps t [] is h = inr (Halted (Slip 4), refl, h)
+    shift-steps t (k ∷ w) is h =
+        let v = R .leaf-rule k in
+        let d = core (t ∷ c .cells) (v ∷ c .values) w in
+        let old = K .list ++ reverse (c .values) in
+        let stack = sent 0 v (at c a b n More .stack) in
+        let to-come = dropped (stream-of (c .rest) (stream .ending)) in
+        let ss = reverse (c .cells) ++ (t ∷ []) in
+        let cells = pushed [] (c .cells) t in
+        let kept = front-turned (K .list) (c .values) 0 (omega arith) in
+        let listed = ap (λ xs. xs ++ (v ∷ [])) kept ∙ pushed (K .list) (c .values) v in
+        let there =
+              same-parts d (recount 0 a) (recount 0 b) (n + 1) ss (front 0 old ++ (v ∷ [])) (rest (c .rest)) cells listed
+              (ap rest is) in
+        tried 0 d h (omega arith) (length old) ss stack to-come (ap length cells ∙ length-reverse (t ∷ c .cells)) there
+
+    node-steps : (p k t : ℕ) → k ≤ length (c .cells) → next-move c ≡ on (with-node R p k t c) →
+        Stepped c a b n (going R p k (at c a b n More) (Ok t))
+    node-steps p k t le h =
+        let d = with-node R p k t c in
+        let enough : k ≤ length (c .values) = omega (arith, level) in
+        let v = R .node-rule p (reverse (take k (c .values))) in
+        let old = K .list ++ reverse (c .values) in
+        let v′ = R .node-rule p (back k old) in
+        let stack = sent k v′ (at c a b n More .stack) in
+        let ss = front k (reverse (c .cells)) ++ (t ∷ []) in
+        let under = front-turned [] (c .cells) k le in
+        let cells = ap (λ xs. xs ++ (t ∷ [])) under ∙ pushed [] (drop k (c .cells)) t in
+        let node-is : v′ ≡ v = ap (R .node-rule p) (back-turned (K .list) (c .values) k enough) in
+        let kept = front-turned (K .list) (c .values) k enough in
+        let listed = ap₂ (λ xs (x : V). xs ++ (x ∷ [])) kept node-is ∙ pushed (K .list) (drop k (c .values)) v in
+        let there =
+              same-parts d (recount 0 a) (recount k b) (n + 1) ss (front k old ++ (v′ ∷ [])) (c .rest) cells listed refl in
+        let fewer = length-drop k (c .cells) in
+        let long = ap length cells ∙ length-reverse (t ∷ drop k (c .cells)) in
+        let step-tried =
+              tried k d h (omega arith) (length old) ss stack (stream-of (c .rest) (stream .ending)) long there in
+        let sum = length-append (K .list) (reverse (c .values)) in
+        let turned = length-reverse (c .values) in
+        let trees : ltb (length old) k ≡ false = le-ltb (length old) k (omega arith) in
+        subst (λ (x : Bool). Stepped c a b n (if-room
+          (cond x (Err (TooFewTrees (length old))) (cond (no-room k) (Err (Full (length old))) (Ok tt)))
+          (at c a b n More)
+          (stepped ss (cond (x || no-room k) (at c a b n More .stack) stack)
+            (stream-of (c .rest) (stream .ending)) (at c a b n More))))
+        (sym trees) step-tried
+
+    -- a shift, a reduce or an accept that the machine finds too
+
+    land-steps : (p : ℕ) (r : Rule) (l : Result ℕ ℕ) → landing-of M r (c .cells) ≡ l →
+        next-move c ≡ land R p (length (r .right)) c l →
+        Stepped c a b n (going R p (length (r .right)) (at c a b n More) l)
+    land-steps p r (Err k) is h = inr (Halted (Slip k), refl, h)
+    land-steps p r (Ok t) is h =
+        let le = leb-true (length (r .right)) (length (c .cells)) (has-landed M r (c .cells) t is .enough) in
+        node-steps p (length (r .right)) t le h
+
+    reduce-steps : (p : ℕ) (o : Option Rule) → next-move c ≡ reduce-by R M p o c →
+        Stepped c a b n (reducing R p o (at c a b n More))
+    reduce-steps p None h = inr (Halted (Slip 1), refl, h)
+    reduce-steps p (Some r) h =
+        subst (λ l. Stepped c a b n (going R p (length (r .right)) (at c a b n More) l))
+        (sym (landing-alike M r (c .cells))) (land-steps p r (landing-of M r (c .cells)) refl h)
+
+    accept-settles : next-move c ≡ accept-with M (c .cells) →
+        Reason (cond (carry-start M (reverse (c .cells))) Accepted (Halted (Slip 4))) c n
+    accept-settles h =
+        subst (λ x. Reason (cond x Accepted (Halted (Slip 4))) c n) (sym (start-alike M (c .cells)))
+        (go (carry-start M (c .cells)) h)
+      where
+        go : (x : Bool) → next-move c ≡ cond x accepts (slips 4) → Reason (cond x Accepted (Halted (Slip 4))) c n
+        go true g = g
+        go false g = g
+
+    -- what is found
+
+    abbrev finds : Result Action SourceFault
+    finds = found M (current (c .cells)) (stream-of (c .rest) (stream .ending))
+
+    found-is : found-in (at c a b n More) ≡ finds
+    found-is = ap (λ s. found M s (stream-of (c .rest) (stream .ending))) (last-turned (c .cells))
+
+    move-is : next-move c ≡ perform R M c (without-fault finds)
+    move-is = ap (perform R M c) (found-alike M (current (c .cells)) (stream .ending) (c .rest))
+
+    fault-settles : (f : SourceFault) → finds ≡ Err f →
+        Reason (Halted (Source f)) c n
+    fault-settles f e = found-fault M (current (c .cells)) (stream .ending) (c .rest) f e
+
+    reject-settles : finds ≡ Ok Reject →
+        next-move c ≡ rejects → Reason (Rejected (place-of-next (c .rest))) c n
+    reject-settles e h = (h, refl, found-reject M (current (c .cells)) (stream .ending) (c .rest) e)
+
+    pub step-tracks : Stepped c a b n (step R (at c a b n More))
+    step-tracks =
+        subst (λ x. Stepped c a b n (step-by R (at c a b n More) x)) (sym found-is)
+        (go finds refl move-is)
+      where
+        go : (x : Result Action SourceFault) → finds ≡ x →
+            next-move c ≡ perform R M c (without-fault x) → Stepped c a b n (step-by R (at c a b n More) x)
+        go (Err f) e h = inr (Halted (Source f), refl, fault-settles f e)
+        go (Ok (Shift t)) e h = shift-steps t (c .rest) refl h
+        go (Ok (Reduce p)) e h = reduce-steps p (M .grammar p) h
+        go (Ok Accept) e h = inr (settled (at c a b n More) (Ok Accept), refl, accept-settles h)
+        go (Ok Reject) e h = inr (Rejected (place-of-next (c .rest)), refl, reject-settles e h)
+
+    -- with no step left: an accept is not overlooked
+    abbrev pub Looked : Outcome → Type 0
+    Looked o = ((o ≡ More) × (next-move c ≡ accepts → ⊥)) ⊎ Reason o c n
+
+    pub look-tracks : Looked (settled (at c a b n More) (found-in (at c a b n More)))
+    look-tracks =
+        subst (λ x. Looked (settled (at c a b n More) x)) (sym found-is)
+        (go finds refl move-is)
+      where
+        go : (x : Result Action SourceFault) → finds ≡ x →
+            next-move c ≡ perform R M c (without-fault x) → Looked (settled (at c a b n More) x)
+        go (Err f) e h = inr (fault-settles f e)
+        go (Ok (Shift t)) e h =
+            inl (refl, λ g. subst Works (sym h ∙ g) (shift-works R M t (c .cells) (c .values) (c .rest)))
+        go (Ok (Reduce p)) e h = inl (refl, λ g. subst Works (sym h ∙ g) (reduce-works R M p (M .grammar p) c))
+        go (Ok Accept) e h = inr (accept-settles h)
+        go (Ok Reject) e h = inr (reject-settles e h)
