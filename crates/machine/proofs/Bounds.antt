@@ -50,9 +50,9 @@ module _ {V : Type 0} (R : Algebra V) (run : Run V) (r : State V)
         grant-bounded = granted-most (run .calls) 0 (omega arith);
         cells-bounded = omega arith;
         list-grown =
-          (reverse (c .values), list-is R (run .table) (run .stream) (run .stack) (grant run) r T, omega arith);
+            (reverse (c .values), list-is R (run .table) (run .stream) (run .stack) (grant run) r T, omega arith);
         enough-trees = λ n is.
-          subst (λ (o : Outcome). Why R (run .table) (run .stream) (run .stack) (grant run) o c (r .steps)) is (T .why);
+            subst (λ (o : Outcome). Why R (run .table) (run .stream) (run .stack) (grant run) o c (r .steps)) is (T .why);
       }
 
 pub bounds : (V : Type 0) → Bounds V

@@ -130,14 +130,17 @@ module _ {V : Type 0} (R : Algebra V) (run : Run V) where
           let t = W .tree in
           let count = W .steps-are in
           let granted-it = T .in-grant in
-          let records = left-at-most (run .stack .records) (r .steps) (T .records) (T .tracks .records-left) in
-          (t, W .of-text, record {
-            has-ended = ends-true (run .stream .ending) (W .has-ended);
-            in-grant = omega arith;
-            in-records = at-most-below (size t) (r .steps) (run .stack .records) (omega arith) records;
-            in-cells = room-cells (run .stack .cells) (reach t) (W .cells-reach);
-            in-sink = room-sink (run .stack .cells) (reach t) (W .cells-reach);
-          })
+          let records = left-at-most (run .stack .records) (r .steps) (T .records) (T .tracks .records-left) in (
+            t,
+            W .of-text,
+            record {
+              has-ended = ends-true (run .stream .ending) (W .has-ended);
+              in-grant = omega arith;
+              in-records = at-most-below (size t) (r .steps) (run .stack .records) (omega arith) records;
+              in-cells = room-cells (run .stack .cells) (reach t) (W .cells-reach);
+              in-sink = room-sink (run .stack .cells) (reach t) (W .cells-reach);
+            },
+          )
 
     -- what a valid table adds
 
@@ -153,7 +156,7 @@ module _ {V : Type 0} (R : Algebra V) (run : Run V) where
         on-the-way =
             let all = reads-all (run .table) v R in
             let moved = subst (λ (b : Bool). moves R (run .table) b (r .steps) (fresh (run .stream .tokens)) ≡ on (T .core))
-                  same-end (T .tracks .moved) in
+            same-end (T .tracks .moved) in
             stays-on-the-way V (run .table) R all (run .stream .tokens) t o (r .steps) (T .core) moved
 
         waits-no-more : Waits R (run .table) (run .stream) (run .stack) (grant run) (T .core) (r .steps) → ⊥
@@ -216,8 +219,8 @@ module _ {V : Type 0} (R : Algebra V) (run : Run V) where
             place-is = place ∙ ap place-of-next (sym to-come);
             token-refused = λ k ks next w made. H .token-refused k ks (sym to-come ∙ next) k w refl made;
             end-refused = λ none.
-              let last = at-end (sym to-come ∙ none) in
-              (last, λ made. H .end-refused (ap ends last) (sym to-come ∙ none) made);
+                let last = at-end (sym to-come ∙ none) in
+                (last, λ made. H .end-refused (ap ends last) (sym to-come ∙ none) made);
           }
 
 pub promise : (V : Type 0) → Promise V

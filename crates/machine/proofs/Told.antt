@@ -156,16 +156,18 @@ module _ {V : Type 0} (R : Algebra V) (M : Automaton) (stream : Stream) (K : Sta
 
   told-more : (g g′ : ℕ) (r : State V) → g ≤ g′ → ended (r .outcome) ≡ true → Running g r → Running g′ r
   told-more g g′ r le i (T, u) =
-      let h = T .in-grant in
-      (record {
-        core = T .core;
-        records = T .records;
-        cells = T .cells;
-        is = T .is;
-        tracks = T .tracks;
-        in-grant = omega arith;
-        why = why-more g g′ (r .outcome) (T .core) (r .steps) i u (T .why);
-      }, u)
+      let h = T .in-grant in (
+        record {
+          core = T .core;
+          records = T .records;
+          cells = T .cells;
+          is = T .is;
+          tracks = T .tracks;
+          in-grant = omega arith;
+          why = why-more g g′ (r .outcome) (T .core) (r .steps) i u (T .why);
+        },
+        u,
+      )
 
   -- a reading that runs is at its core
   abbrev here : (g : ℕ) (r : State V) → Told g r → State V
@@ -198,9 +200,9 @@ module _ {V : Type 0} (R : Algebra V) (M : Automaton) (stream : Stream) (K : Sta
           let eg : g ≡ r .steps = subst (λ (o : Outcome). Why g o (T .core) (r .steps)) m (T .why) .0 in
           let told = by (leb (g + n) most-steps) eg m in
           let same-test = subst (λ (k : ℕ). Running g′
-                (unless (cond (leb (k + n) most-steps) None (Some (TooManySteps (r .steps)))) (λ s. spend R n s) r)) eg told in
+          (unless (cond (leb (k + n) most-steps) None (Some (TooManySteps (r .steps)))) (λ s. spend R n s) r)) eg told in
           subst (λ (o : Outcome). Running g′ (unless (cond (ended o) (Some (Ended (r .steps)))
-            (cond (leb (r .steps + n) most-steps) None (Some (TooManySteps (r .steps))))) (λ s. spend R n s) r))
+          (cond (leb (r .steps + n) most-steps) None (Some (TooManySteps (r .steps))))) (λ s. spend R n s) r))
           (sym m) same-test
       go (inr i) =
           subst (Running g′) (sym (called-stays R (Turn n) r i))
@@ -247,20 +249,23 @@ module _ {V : Type 0} (R : Algebra V) (M : Automaton) (stream : Stream) (K : Sta
       go (suc k) l g = absurd (omega arith)
 
   new-told : Running 0 (new M stream K)
-  new-told = (record {
-    core = fresh (stream .tokens);
-    records = K .records;
-    cells = K .cells;
-    is = λ i. new M stream (record { list = sym (append-nil (K .list)) i; records = K .records; cells = K .cells });
-    tracks = record {
-      moved = refl;
-      records-left = left-all (K .records);
-      cells-left = left-all (K .cells);
-      high = none-high;
-    };
-    in-grant = omega arith;
-    why = (refl, inl refl);
-  }, tt)
+  new-told = (
+    record {
+      core = fresh (stream .tokens);
+      records = K .records;
+      cells = K .cells;
+      is = λ i. new M stream (record { list = sym (append-nil (K .list)) i; records = K .records; cells = K .cells });
+      tracks = record {
+        moved = refl;
+        records-left = left-all (K .records);
+        cells-left = left-all (K .cells);
+        high = none-high;
+      };
+      in-grant = omega arith;
+      why = (refl, inl refl);
+    },
+    tt,
+  )
 
 -- every run
 pub run-told : {V : Type 0} (R : Algebra V) (run : Run V) →

@@ -188,8 +188,8 @@ module _ {V : Type 0} (R : Algebra V) (M : Automaton) (stream : Stream) (K : Sta
         let kept = front-turned (K .list) (c .values) 0 (omega arith) in
         let listed = ap (λ xs. xs ++ (v ∷ [])) kept ∙ pushed (K .list) (c .values) v in
         let there =
-              same-parts d (recount 0 a) (recount 0 b) (n + 1) ss (front 0 old ++ (v ∷ [])) (rest (c .rest)) cells listed
-              (ap rest is) in
+        same-parts d (recount 0 a) (recount 0 b) (n + 1) ss (front 0 old ++ (v ∷ [])) (rest (c .rest)) cells listed
+        (ap rest is) in
         tried 0 d h (omega arith) (length old) ss stack to-come (ap length cells ∙ length-reverse (t ∷ c .cells)) there
 
     node-steps : (p k t : ℕ) → k ≤ length (c .cells) → next-move c ≡ on (with-node R p k t c) →
@@ -208,19 +208,19 @@ module _ {V : Type 0} (R : Algebra V) (M : Automaton) (stream : Stream) (K : Sta
         let kept = front-turned (K .list) (c .values) k enough in
         let listed = ap₂ (λ xs (x : V). xs ++ (x ∷ [])) kept node-is ∙ pushed (K .list) (drop k (c .values)) v in
         let there =
-              same-parts d (recount 0 a) (recount k b) (n + 1) ss (front k old ++ (v′ ∷ [])) (c .rest) cells listed refl in
+        same-parts d (recount 0 a) (recount k b) (n + 1) ss (front k old ++ (v′ ∷ [])) (c .rest) cells listed refl in
         let fewer = length-drop k (c .cells) in
         let long = ap length cells ∙ length-reverse (t ∷ drop k (c .cells)) in
         let step-tried =
-              tried k d h (omega arith) (length old) ss stack (stream-of (c .rest) (stream .ending)) long there in
+        tried k d h (omega arith) (length old) ss stack (stream-of (c .rest) (stream .ending)) long there in
         let sum = length-append (K .list) (reverse (c .values)) in
         let turned = length-reverse (c .values) in
         let trees : ltb (length old) k ≡ false = le-ltb (length old) k (omega arith) in
         subst (λ (x : Bool). Stepped c a b n (if-room
-          (cond x (Err (TooFewTrees (length old))) (cond (no-room k) (Err (Full (length old))) (Ok tt)))
-          (at c a b n More)
-          (stepped ss (cond (x || no-room k) (at c a b n More .stack) stack)
-            (stream-of (c .rest) (stream .ending)) (at c a b n More))))
+        (cond x (Err (TooFewTrees (length old))) (cond (no-room k) (Err (Full (length old))) (Ok tt)))
+        (at c a b n More)
+        (stepped ss (cond (x || no-room k) (at c a b n More .stack) stack)
+        (stream-of (c .rest) (stream .ending)) (at c a b n More))))
         (sym trees) step-tried
 
     -- a shift, a reduce or an accept that the machine finds too

@@ -7,6 +7,8 @@ pub mod Moves
 pub mod Natural
 pub mod Completeness
 pub mod Onward
+pub mod Practice
+pub mod PracticeCases
 pub mod Safety
 pub mod Sound
 pub mod Symbols

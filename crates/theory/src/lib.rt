@@ -1,4 +1,7 @@
 //! The theory of LR(1) tables: what holds of the machine without bounds, for every table. Each function carries a theorem.
+ghost use Rattle.table.specs.Lawful.{narrow};
+ghost use Rattle.table.specs.Validity.{Valid};
+ghost use Rattle.theory.specs.Practice.{practice};
 ghost use Rattle.theory.specs.Theorems.{Natural, ReadingMaps, AcceptsOnlyTrees, NeverSlips, ReadsEveryTree};
 ghost use Rattle.theory.specs.Theorems.{StaysOnTheWay, OneTree, RejectsTheHopeless};
 
@@ -37,4 +40,9 @@ pub fn one_tree()
 /// Where every tree is read, what is rejected begins no text of the grammar.
 pub fn rejects_the_hopeless<V>()
     ensures { λ _. ⌜ RejectsTheHopeless V ⌝ }
+{}
+
+/// The practice table is valid.
+pub fn practice_is_valid()
+    ensures { λ _. ⌜ Valid narrow practice ⌝ }
 {}

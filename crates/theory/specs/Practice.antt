@@ -1,0 +1,109 @@
+-- The practice table with its hints: a text is any number of words, read by three states.
+use mathlib.Core.Bool.{Bool, false, cond, _&&_, _||_}
+use mathlib.Core.List.{List, [], _∷_}
+use Prim.Native.Nat.{ℕ, zero, suc}
+use lib.Dec.{eqb}
+use Rattle.std.specs.declared.option.Option.{Option}
+use Rattle.std.specs.declared.option.Option.the-variants.{Some, None}
+use Rattle.syntax.specs.declared.Symbol.{Symbol}
+use Rattle.syntax.specs.declared.Symbol.the-variants.{Terminal, Nonterminal}
+use Rattle.syntax.specs.Grammar.{Rule, Grammar}
+use Rattle.table.specs.declared.Action.{Action}
+use Rattle.table.specs.declared.Action.the-variants.{Shift, Accept, Reject}
+use Rattle.table.specs.Automaton.{Automaton}
+use Rattle.table.specs.Hints.{Set, Hints, added}
+
+-- the start is empty, or a start and a word (terminal 1)
+abbrev pub empty-rule : Rule
+empty-rule = record { left = 0; right = [] }
+
+abbrev pub longer-rule : Rule
+longer-rule = record { left = 0; right = Nonterminal 0 ∷ Terminal 1 ∷ [] }
+
+abbrev pub rules : Grammar
+rules zero = Some empty-rule
+rules (suc zero) = Some longer-rule
+rules (suc (suc p)) = None
+
+-- state 0 is initial, a start enters state 1, and a word behind it state 2
+abbrev pub entries : ℕ → Option Symbol
+entries zero = None
+entries (suc zero) = Some (Nonterminal 0)
+entries (suc (suc zero)) = Some (Terminal 1)
+entries (suc (suc (suc s))) = None
+
+abbrev pub defaults : ℕ → Option ℕ
+defaults zero = Some 0
+defaults (suc zero) = None
+defaults (suc (suc zero)) = Some 1
+defaults (suc (suc (suc s))) = None
+
+abbrev pub actions : ℕ → ℕ → Action
+actions zero a = Reject
+actions (suc zero) zero = Accept
+actions (suc zero) (suc zero) = Shift 2
+actions (suc zero) (suc (suc a)) = Reject
+actions (suc (suc s)) a = Reject
+
+abbrev pub gotos : ℕ → ℕ → Option ℕ
+gotos zero zero = Some 1
+gotos zero (suc n) = None
+gotos (suc s) n = None
+
+abbrev pub practice : Automaton
+practice = record { grammar = rules; incoming = entries; default = defaults; action = actions; goto = gotos }
+
+-- the hints
+
+abbrev pub past : ℕ → List Symbol
+past zero = []
+past (suc zero) = []
+past (suc (suc zero)) = Nonterminal 0 ∷ []
+past (suc (suc (suc s))) = []
+
+abbrev pub sets : ℕ → List Set
+sets zero = []
+sets (suc zero) = eqb 0 ∷ []
+sets (suc (suc zero)) = eqb 1 ∷ eqb 0 ∷ []
+sets (suc (suc (suc s))) = []
+
+pub record ItemRow : Type 0 where
+  pub state : ℕ
+  pub production : ℕ
+  pub dot : ℕ
+  pub looks : Set
+
+abbrev pub item : ℕ → ℕ → ℕ → Set → ItemRow
+item s p d looks = record { state = s; production = p; dot = d; looks = looks }
+
+-- END, and END or a word
+abbrev pub at-end : Set
+at-end = eqb 0
+
+abbrev pub anywhere : Set
+anywhere a = eqb 0 a || eqb 1 a
+
+abbrev pub items : List ItemRow
+items =
+    item 0 0 0 anywhere
+    ∷ item 0 1 0 anywhere
+    ∷ item 0 added 0 at-end
+    ∷ item 1 1 1 anywhere
+    ∷ item 1 added 1 at-end
+    ∷ item 2 1 2 anywhere
+    ∷ []
+
+abbrev pub looks-in : List ItemRow → ℕ → ℕ → ℕ → Set
+looks-in [] s p d = λ a. false
+looks-in (i ∷ is) s p d =
+    cond (eqb (i .state) s && (eqb (i .production) p && eqb (i .dot) d)) (i .looks) (looks-in is s p d)
+
+abbrev pub practice-hints : Hints
+practice-hints = record {
+  past-symbols = past;
+  past-sets = sets;
+  look-aheads = looks-in items;
+  nullable = eqb 0;
+  firsts = λ n a. eqb 0 n && eqb 1 a;
+  known = eqb 0;
+}
