@@ -2,6 +2,7 @@ pub mod Alike
 pub mod Answering
 pub mod Bounds
 pub mod Counts
+pub mod Marked
 pub mod Promise
 pub mod Told
 pub mod Tracks

@@ -1,4 +1,5 @@
 //! The machine of a reading, its runs, and what is promised of every run. Each function carries a theorem.
+ghost use Rattle.machine.specs.Marked.{Marked};
 ghost use Rattle.machine.specs.Promise.{Promise, Bounds, AnswersTruly, OneCallMore};
 
 /// What is accepted is one tree of the whole text; and on a valid table a text has one tree, what fits is accepted and
@@ -20,4 +21,9 @@ pub fn answers_are_true<V>()
 /// A run goes on call by call.
 pub fn one_call_more<V>()
     ensures { λ _. ⌜ OneCallMore V ⌝ }
+{}
+
+/// Readings by the practice table come out as they were worked out by hand.
+pub fn marked_readings()
+    ensures { λ _. ⌜ Marked ⌝ }
 {}
