@@ -1,7 +1,7 @@
 -- A reading finds the actions and the landings that the machine without bounds finds.
-use mathlib.Core.Path.{_≡_, refl, sym, ap, ap₂, subst, _∙_}
+use mathlib.Core.Path.{_≡_, refl, sym, ap, ap₂, _∙_}
 use mathlib.Core.Bool.{Bool, true, false}
-use mathlib.Core.List.{List, [], _∷_, _++_, reverse}
+use mathlib.Core.List.{List, [], _∷_, reverse}
 use Prim.Native.Nat.{ℕ, _≤_}
 use lib.Dec.{leb}
 use lib.ListN.{length, take, drop}
@@ -20,7 +20,7 @@ use Rattle.theory.specs.Machine as free
 use Rattle.theory.proofs.Clash.{clash}
 use Rattle.theory.proofs.Symbols.{carry-reverse}
 use Rattle.source.specs.declared.SourceFault.{SourceFault}
-use Rattle.source.specs.Streams.{Ending, end, fault, Stream, answer, next}
+use Rattle.source.specs.Streams.{Ending, end, fault, Stream, next}
 use Rattle.sink.specs.Stacks.{front, back}
 use Rattle.machine.specs.Reading.{last-of, peeked, unless-default, found, landing-from}
 use Rattle.machine.proofs.Turned.{front-turned, back-turned, last-turned}

@@ -1,9 +1,8 @@
 -- What calls answer is true, and a run goes on call by call.
-use mathlib.Core.Path.{_≡_, refl, sym}
+use mathlib.Core.Path.{_≡_, refl}
 use mathlib.Core.List.{List, [], _∷_, _++_}
 use Rattle.std.specs.declared.option.Option.{Option}
 use Rattle.std.specs.declared.option.Option.the-variants.{Some, None}
-use Rattle.std.specs.declared.result.Result.{Result}
 use Rattle.std.specs.declared.result.Result.the-variants.{Ok, Err}
 use Rattle.syntax.specs.Values.{Algebra}
 use Rattle.theory.proofs.Clash.{clash}
@@ -11,8 +10,8 @@ use Rattle.outcome.specs.declared.Declined.{Declined}
 use Rattle.outcome.specs.declared.Call.{Call}
 use Rattle.outcome.specs.declared.Report.{Report}
 use Rattle.machine.specs.Reading.{State}
-use Rattle.machine.specs.Calls.{declined, unless, or-declined, done, called, after-calls, answer, report}
-use Rattle.machine.specs.Runs.{Run, new}
+use Rattle.machine.specs.Calls.{declined, unless, or-declined, done, called, after-calls, report}
+use Rattle.machine.specs.Runs.{new}
 use Rattle.machine.specs.Promise.{AnswersTruly, OneCallMore}
 
 module _ {V : Type 0} (R : Algebra V) (c : Call) (r : State V) where

@@ -10,13 +10,10 @@ use Rattle.std.proofs.shelf.Lists.{length-reverse}
 use Rattle.std.proofs.shelf.Tests.{leb-true}
 use Rattle.syntax.specs.Values.{Algebra}
 use Rattle.theory.proofs.Moves.{moves-level}
-use Rattle.sink.specs.declared.SinkFault.the-variants.{TooFewTrees}
-use Rattle.outcome.specs.declared.Halt.the-variants.{Sink}
 use Rattle.outcome.specs.declared.Outcome.{Outcome}
-use Rattle.outcome.specs.declared.Outcome.the-variants.{Halted}
 use Rattle.outcome.specs.declared.Call.{Call}
 use Rattle.outcome.specs.declared.Call.the-variants.{Turn, Stop, Mark, Report as Tell}
-use Rattle.machine.specs.Reading.{State, most-cells, most-steps}
+use Rattle.machine.specs.Reading.{State, most-steps}
 use Rattle.machine.specs.Runs.{Run, after, granted, grant}
 use Rattle.machine.specs.Promise.{Bounded, Bounds}
 use Rattle.machine.proofs.Alike.{ends}

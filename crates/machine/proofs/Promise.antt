@@ -1,45 +1,39 @@
 -- The promise of runs.
 use mathlib.Core.Path.{_≡_, refl, sym, ap, subst, _∙_}
-use mathlib.Core.Bool.{Bool, true, false, cond}
-use mathlib.Core.List.{List, [], _∷_, _++_, reverse}
+use mathlib.Core.Bool.{Bool, true}
+use mathlib.Core.List.{_++_, reverse}
 use mathlib.Core.Logic.{_⊎_, inl, inr}
-use Prim.Native.Nat.{ℕ, suc, _+_, _≤_, _<_}
+use Prim.Native.Nat.{ℕ, suc, _≤_, _<_}
 use native.Mathlib.Omega.{arith}
-use lib.Dec.{leb}
 use lib.ListN.{length}
-use Rattle.std.proofs.shelf.Lists.{length-reverse}
-use Rattle.std.proofs.shelf.Tests.{cases-lt, leb-true}
+use Rattle.std.proofs.shelf.Tests.{cases-lt}
 use Rattle.std.specs.declared.option.Option.{Option}
-use Rattle.syntax.specs.declared.Token.{Token}
 use Rattle.syntax.specs.Grammar.{Kinded}
 use Rattle.syntax.specs.Trees.{Tree, leaf, node, TreeOf, size, reach}
-use Rattle.syntax.specs.Values.{Algebra, read}
+use Rattle.syntax.specs.Values.{Algebra}
 use Rattle.table.specs.Automaton.{Automaton}
 use Rattle.table.specs.Lawful.{Lawful}
 use Rattle.table.specs.Validity.{Valid, safe-half, complete-half}
-use Rattle.theory.specs.Machine.{Core, Move, on, accepts, rejects, slips, fresh, move, moves}
+use Rattle.theory.specs.Machine.{Core, on, accepts, rejects, slips, fresh, move, moves}
 use Rattle.theory.specs.Maps.{tree-algebra}
 use Rattle.theory.specs.Theorems as theory
 use Rattle.theory.proofs.Clash.{clash}
 use Rattle.theory.proofs.View.{same-core}
-use Rattle.theory.proofs.Moves.{moves-level}
 use Rattle.theory.proofs.Sound.{accepts-only-trees}
 use Rattle.theory.proofs.Safety.{never-slips}
 use Rattle.theory.proofs.Completeness.{reads-every-tree}
 use Rattle.theory.proofs.Onward.{stays-on-the-way, one-tree}
 use Rattle.theory.proofs.Hopeless.{replayed, rejects-the-hopeless}
-use Rattle.source.specs.Streams.{end, fault}
 use Rattle.sink.specs.declared.SinkFault.the-variants.{Full, TooFewTrees}
-use Rattle.sink.specs.Stacks.{Count}
 use Rattle.outcome.specs.declared.Halt.the-variants.{Source, Sink, Cells, Slip}
 use Rattle.outcome.specs.declared.Outcome.{Outcome}
 use Rattle.outcome.specs.declared.Outcome.the-variants.{More, Accepted, Rejected, Halted, Stopped}
-use Rattle.machine.specs.Reading.{State, most-cells, place-of-next}
+use Rattle.machine.specs.Reading.{State, place-of-next}
 use Rattle.machine.specs.Runs.{Run, after, grant, AtMost, Fits}
 use Rattle.machine.specs.Promise.{ReadWhole, Hopeless, FittingTree, Promise}
 use Rattle.machine.proofs.Alike.{ends, ends-true}
 use Rattle.machine.proofs.Counts.{left-at-most, at-most-below, room, room-cells, room-sink}
-use Rattle.machine.proofs.Tracks.{next-move, Tracks, Reason}
+use Rattle.machine.proofs.Tracks.{next-move}
 use Rattle.machine.proofs.Told.{Waits, Why, Told, tokens-are, list-is, run-told}
 
 -- what a valid table gives the machine without bounds
@@ -106,7 +100,7 @@ module _ {V : Type 0} (R : Algebra V) (run : Run V) where
     -- what is accepted
 
     module _ (states : ℕ) (law : Lawful states (run .table)) (kinded : Kinded (run .stream .tokens)) where
-      read-by-machine : r .outcome ≡ Accepted → theory.ReadWhole R (run .table) (ends (run .stream .ending))
+      read-by-machine : r .outcome ≡ Accepted → theory.TreeAccepted R (run .table) (ends (run .stream .ending))
           (run .stream .tokens) (r .steps) (room (run .stack .cells)) (T .core)
       read-by-machine is =
           accepts-only-trees V states (run .table) law R (ends (run .stream .ending)) (run .stream .tokens) (r .steps)

@@ -8,7 +8,6 @@ use native.Mathlib.Omega.{arith}
 use lib.Dec.{leb}
 use lib.ListN.{length}
 use Rattle.std.proofs.shelf.Lists.{append-nil}
-use Rattle.std.specs.declared.option.Option.{Option}
 use Rattle.std.specs.declared.option.Option.the-variants.{Some, None}
 use Rattle.syntax.specs.Values.{Algebra}
 use Rattle.table.specs.Automaton.{Automaton}
@@ -20,17 +19,16 @@ use Rattle.source.specs.Streams.{Stream}
 use Rattle.sink.specs.Stacks.{Count, Stack}
 use Rattle.outcome.specs.declared.Outcome.{Outcome}
 use Rattle.outcome.specs.declared.Outcome.the-variants.{More, Accepted, Rejected, Halted, Stopped}
-use Rattle.outcome.specs.declared.Declined.{Declined}
 use Rattle.outcome.specs.declared.Declined.the-variants.{Ended, TooManySteps, BeforeEnd}
 use Rattle.outcome.specs.declared.Call.{Call}
 use Rattle.outcome.specs.declared.Call.the-variants.{Turn, Stop, Mark, Report as Tell}
 use Rattle.outcome.specs.Numbers.{ended}
-use Rattle.machine.specs.Reading.{State, with-outcome, most-steps, found-in, settled, step, go-on, spend}
-use Rattle.machine.specs.Calls.{declined, unless, done, called, after-calls}
+use Rattle.machine.specs.Reading.{State, most-steps, found-in, settled, step, go-on, spend}
+use Rattle.machine.specs.Calls.{unless, called, after-calls}
 use Rattle.machine.specs.Runs.{Run, new, after, granted, grant}
 use Rattle.machine.proofs.Alike.{ends}
 use Rattle.machine.proofs.Counts.{left-all, room}
-use Rattle.machine.proofs.Tracks.{at, next-move, Tracks, Reason, Stepped, step-tracks, Looked, look-tracks}
+use Rattle.machine.proofs.Tracks.{at, next-move, Tracks, Reason, Stepped, step-tracks, look-tracks}
 
 -- an ended reading stays as it is
 

@@ -22,18 +22,17 @@ use Rattle.table.specs.Automaton.{Automaton}
 use Rattle.theory.specs.Machine.{Core, core, fresh, current, Move, on, accepts, rejects, slips, carry-start, with-node}
 use Rattle.theory.specs.Machine.{landing-of, shift-to, land, reduce-by, accept-with, perform, move, moves}
 use Rattle.theory.specs.Theorems.{Within}
-use Rattle.theory.proofs.View.{same-core, Works, shift-works, reduce-works, Landed, has-landed}
+use Rattle.theory.proofs.View.{same-core, Works, shift-works, reduce-works, has-landed}
 use Rattle.theory.proofs.Moves.{moves-more, moves-level}
 use Rattle.source.specs.declared.SourceFault.{SourceFault}
 use Rattle.source.specs.Streams.{end, fault, Stream, rest, dropped}
-use Rattle.sink.specs.declared.SinkFault.{SinkFault}
 use Rattle.sink.specs.declared.SinkFault.the-variants.{Full, TooFewTrees}
-use Rattle.sink.specs.Stacks.{Count, Stack, spent, recount, front, back, full, sent}
+use Rattle.sink.specs.Stacks.{Count, Stack, spent, recount, front, back, sent}
 use Rattle.outcome.specs.declared.Halt.the-variants.{Source, Sink, Cells, Slip}
 use Rattle.outcome.specs.declared.Outcome.{Outcome}
 use Rattle.outcome.specs.declared.Outcome.the-variants.{More, Accepted, Rejected, Halted, Stopped}
 use Rattle.machine.specs.Reading.{State, most-cells, place-of-next, found-in, settled, stepped, sent-to, if-room}
-use Rattle.machine.specs.Reading.{halt, landing-from, found, last-of, shifting, going, reducing, step-by, step}
+use Rattle.machine.specs.Reading.{halt, found, shifting, going, reducing, step-by, step}
 use Rattle.machine.specs.Runs.{AtMost}
 use Rattle.machine.proofs.Alike.{ends, without-fault, stream-of, found-alike, found-fault, found-reject}
 use Rattle.machine.proofs.Alike.{landing-alike, start-alike}

@@ -1,9 +1,9 @@
 -- Lists with the oldest first, as a reading and its sink have them, and with the newest first, as the machine has them.
-use mathlib.Core.Path.{_≡_, refl, sym, ap, subst, _∙_}
+use mathlib.Core.Path.{_≡_, refl, sym, ap, _∙_}
 use mathlib.Core.List.{List, [], _∷_, _++_, reverse, reverse-cons}
-use Prim.Native.Nat.{ℕ, suc, _+_, _-_, _≤_}
+use Prim.Native.Nat.{ℕ, _-_, _≤_}
 use native.Mathlib.Omega.{arith}
-use lib.ListN.{length, take, drop, getD}
+use lib.ListN.{length, take, drop}
 use Rattle.std.proofs.shelf.Lists.{append-assoc, reverse-append, length-append, length-reverse, length-drop}
 use Rattle.std.proofs.shelf.Lists.{take-append-drop, take-at, drop-at, getD-push}
 use Rattle.sink.specs.Stacks.{front, back}

@@ -3,7 +3,7 @@ use mathlib.Core.Path.{_≡_}
 use mathlib.Core.List.{List, [], _∷_, _++_}
 use Prim.Native.Nat.{ℕ}
 use lib.ListN.{length, replicate}
-use Rattle.std.specs.declared.option.Option.the-variants.{Some, None}
+use Rattle.std.specs.declared.option.Option.the-variants.{Some}
 use Rattle.std.specs.declared.result.Result.{Result}
 use Rattle.std.specs.declared.result.Result.the-variants.{Ok, Err}
 use Rattle.syntax.specs.declared.Token.{Token}
@@ -11,7 +11,7 @@ use Rattle.syntax.specs.Trees.{Tree, leaf, node, no-tree, tree-then, text, size
 use Rattle.syntax.specs.Values.{Algebra, read}
 use Rattle.theory.specs.Practice.{practice}
 use Rattle.source.specs.declared.SourceFault.the-variants.{UnknownByte}
-use Rattle.source.specs.Streams.{Ending, end, fault, Stream}
+use Rattle.source.specs.Streams.{end, fault, Stream}
 use Rattle.sink.specs.declared.SinkFault.the-variants.{Full}
 use Rattle.sink.specs.Stacks.{Stack, endless, limited}
 use Rattle.outcome.specs.declared.Halt.the-variants.{Source, Sink, Cells, Slip}

@@ -73,12 +73,12 @@ abbrev pub Bounds : Type 0 → Type 0
 Bounds V = (R : Algebra V) (run : Run V) → Bounded run (after R run)
 
 -- a declined call changes nothing, and any other tells how the reading stands after it
-pub record Truly {V : Type 0} (R : Algebra V) (c : Call) (r : State V) : Type 0 where
+pub record TrueAnswer {V : Type 0} (R : Algebra V) (c : Call) (r : State V) : Type 0 where
   pub declined-unmoved : (d : Declined) → answer R c r ≡ Err d → called R c r ≡ r
   pub told-truly : (x : Report) → answer R c r ≡ Ok x → x ≡ report (called R c r)
 
 abbrev pub AnswersTruly : Type 0 → Type 0
-AnswersTruly V = (R : Algebra V) (c : Call) (r : State V) → Truly R c r
+AnswersTruly V = (R : Algebra V) (c : Call) (r : State V) → TrueAnswer R c r
 
 -- a run with one call more leads to what the call makes of where the run led
 abbrev pub OneCallMore : Type 0 → Type 0

@@ -7,14 +7,14 @@ use Rattle.table.specs.Safety.{Safe}
 use Rattle.table.specs.Completeness.{Complete}
 
 -- there are hints under which the table is safe
-pub record SafeSomehow (states : ℕ) (M : Automaton) : Type 0 where
+pub record SafeUnderHints (states : ℕ) (M : Automaton) : Type 0 where
   pub hints : Hints
   pub lawful : Lawful states M
   pub hints-lawful : HintsLawful M hints
   pub safe : Safe M hints
 
 -- there are hints under which the table is complete
-pub record CompleteSomehow (states : ℕ) (M : Automaton) : Type 0 where
+pub record CompleteUnderHints (states : ℕ) (M : Automaton) : Type 0 where
   pub hints : Hints
   pub lawful : Lawful states M
   pub complete : Complete M hints
@@ -27,7 +27,7 @@ pub record Valid (states : ℕ) (M : Automaton) : Type 0 where
   pub safe : Safe M hints
   pub complete : Complete M hints
 
-abbrev pub safe-half : {states : ℕ} {M : Automaton} → Valid states M → SafeSomehow states M
+abbrev pub safe-half : {states : ℕ} {M : Automaton} → Valid states M → SafeUnderHints states M
 safe-half v = record {
   hints = v .hints;
   lawful = v .lawful;
@@ -35,5 +35,5 @@ safe-half v = record {
   safe = v .safe;
 }
 
-abbrev pub complete-half : {states : ℕ} {M : Automaton} → Valid states M → CompleteSomehow states M
+abbrev pub complete-half : {states : ℕ} {M : Automaton} → Valid states M → CompleteUnderHints states M
 complete-half v = record { hints = v .hints; lawful = v .lawful; complete = v .complete }

@@ -6,7 +6,6 @@ use mathlib.Core.Logic.{_≢_}
 use Prim.Native.Nat.{ℕ, zero, suc, _+_, _≤_}
 use native.Mathlib.Nat.{add-comm, add-zero}
 use native.Mathlib.Omega.{arith}
-use lib.Dec.{eqb}
 use lib.ListN.{length, take, drop}
 use Rattle.std.proofs.shelf.Lists.{drop-at, take-at, drop-drop, drop-all, length-reverse, reverse-reverse}
 use Rattle.std.proofs.shelf.Lists.{append-assoc, append-nil}
@@ -26,15 +25,14 @@ use Rattle.table.specs.declared.Action.{Action}
 use Rattle.table.specs.declared.Action.the-variants.{Shift, Reduce, Accept}
 use Rattle.table.specs.Automaton.{Automaton, decide}
 use Rattle.table.specs.Lawful.{Lawful}
-use Rattle.table.specs.Hints.{Set, _∈_, _⊆_, Hints, added, right-side, Behind}
+use Rattle.table.specs.Hints.{_∈_, Hints, added, right-side, Behind}
 use Rattle.table.specs.Completeness.{Complete, Item, OneDotOn, wanted}
-use Rattle.table.specs.Validity.{CompleteSomehow}
 use Rattle.theory.specs.Machine.{Core, core, Move, on, accepts, slips, fresh, current, seen, found, carry-start}
 use Rattle.theory.specs.Machine.{landing-of, with-node, land, reduce-by, perform, move, moves, Leads}
 use Rattle.theory.specs.Theorems.{NoSlips, ReadsEveryTree}
 use Rattle.theory.proofs.Firsts.{next, forest-wanted}
 use Rattle.theory.proofs.Moves.{moves-more, leads-moves, leads-add, leads-more}
-use Rattle.theory.proofs.View.{Landed, has-landed}
+use Rattle.theory.proofs.View.{has-landed}
 
 -- lists
 

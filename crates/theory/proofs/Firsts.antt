@@ -1,5 +1,5 @@
 -- What comes next where a tree or a forest begins is among the first terminals of its symbols.
-use mathlib.Core.Path.{_≡_, refl, sym, ap, subst, _∙_}
+use mathlib.Core.Path.{_≡_, refl, ap}
 use mathlib.Core.Bool.{Bool, true, false, _&&_, _||_}
 use mathlib.Core.List.{List, [], _∷_, _++_}
 use mathlib.Core.Logic.{_⊎_, inl, inr}
@@ -8,7 +8,7 @@ use lib.Dec.{T, eqb-refl}
 use Rattle.std.specs.declared.option.Option.the-variants.{Some}
 use Rattle.syntax.specs.declared.Token.{Token}
 use Rattle.syntax.specs.declared.Symbol.{Symbol}
-use Rattle.syntax.specs.declared.Symbol.the-variants.{Terminal, Nonterminal}
+use Rattle.syntax.specs.declared.Symbol.the-variants.{Nonterminal}
 use Rattle.syntax.specs.Grammar.{Rule}
 use Rattle.syntax.specs.Trees.{Tree, leaf, node, Forest, no-tree, tree-then, Of, OfAll, text, texts}
 use Rattle.table.specs.Automaton.{Automaton}

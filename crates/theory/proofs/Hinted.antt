@@ -8,23 +8,23 @@ use native.Mathlib.Omega.{arith}
 use lib.Dec.{eqb-refl}
 use lib.ListN.{length, take, drop}
 use Rattle.std.proofs.shelf.Lists.{reverse-append, reverse-reverse, length-reverse}
-use Rattle.std.proofs.shelf.Tests.{and-from, le-leb}
+use Rattle.std.proofs.shelf.Tests.{and-from}
 use Rattle.std.specs.declared.option.Option.{Option}
 use Rattle.std.specs.declared.option.Option.the-variants.{Some, None}
 use Rattle.syntax.specs.declared.Token.{Token}
 use Rattle.syntax.specs.declared.Symbol.{Symbol}
 use Rattle.syntax.specs.declared.Symbol.the-variants.{Terminal, Nonterminal}
-use Rattle.syntax.specs.Grammar.{Rule, Present}
+use Rattle.syntax.specs.Grammar.{Present}
 use Rattle.syntax.specs.Values.{Algebra}
 use Rattle.table.specs.Automaton.{Automaton, nth}
 use Rattle.table.specs.Hints.{Set, _∈_, Hints, incoming-list, trail, shadow}
-use Rattle.table.specs.Safety.{Ends, Covers, Edge, Reduces, Safe}
-use Rattle.table.specs.Validity.{SafeSomehow}
+use Rattle.table.specs.Safety.{Ends, Covers, Edge}
+use Rattle.table.specs.Validity.{SafeUnderHints}
 use Rattle.theory.specs.Machine.{Core, on, fresh, current, enters, carry, move, moves}
 use Rattle.theory.proofs.Clash.{some-some, none-some}
 use Rattle.theory.proofs.Symbols.{enters-own, carry-reverse}
 use Rattle.theory.proofs.Moves.{kept-by-moves}
-use Rattle.theory.proofs.View.{Shifted, Reduced, Landed, view-on}
+use Rattle.theory.proofs.View.{Shifted, Reduced, view-on}
 
 -- the same, as far as both go
 abbrev pub Agree : List Symbol → List Symbol → Type 0
@@ -136,7 +136,7 @@ module _ (M : Automaton) (H : Hints) where
       let up = carry-reverse M (take (length (reverse α)) ss) (reverse α) down in
       simp (reverse-reverse, length-reverse) at up
 
-module _ {states : ℕ} (M : Automaton) (safely : SafeSomehow states M) where
+module _ {states : ℕ} (M : Automaton) (safely : SafeUnderHints states M) where
   pushed : (ss : List ℕ) (t : ℕ) (X : Symbol) → Edge M (current ss) t → M .incoming t ≡ Some X →
       Hinted M (safely .hints) ss → Hinted M (safely .hints) (t ∷ ss)
   pushed ss t X edge e S =

@@ -16,7 +16,7 @@ use Rattle.syntax.specs.Values.{Algebra}
 use Rattle.table.specs.declared.Action.{Action}
 use Rattle.table.specs.declared.Action.the-variants.{Shift, Reduce, Accept, Reject}
 use Rattle.table.specs.Automaton.{Automaton}
-use Rattle.theory.specs.Machine.{Core, core, Move, on, accepts, rejects, fresh, current, seen, found, landing-of, shift-to}
+use Rattle.theory.specs.Machine.{Core, core, Move, on, rejects, fresh, current, seen, found, landing-of, shift-to}
 use Rattle.theory.specs.Machine.{land, reduce-by, perform, and-then, move, moves}
 use Rattle.theory.specs.Theorems.{ReadsAll, RejectsTheHopeless}
 use Rattle.theory.proofs.Clash.{clash}

@@ -5,7 +5,6 @@ use mathlib.Core.List.{List}
 use mathlib.Core.Logic.{_⊎_, inl, inr}
 use Prim.Native.Nat.{ℕ, zero, suc, _+_, _-_, _≤_}
 use native.Mathlib.Nat.{zero-add, suc-add}
-use native.Mathlib.Omega.{arith}
 use lib.ListN.{length, length-drop}
 use Rattle.syntax.specs.declared.Token.{Token}
 use Rattle.syntax.specs.Values.{Algebra}

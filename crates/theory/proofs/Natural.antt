@@ -18,7 +18,7 @@ use Rattle.table.specs.declared.Action.the-variants.{Shift, Reduce, Accept, Rej
 use Rattle.table.specs.Automaton.{Automaton}
 use Rattle.theory.specs.Machine.{Core, core, Move, on, accepts, rejects, slips, starves, current, seen, found}
 use Rattle.theory.specs.Machine.{carry-start, landing-of, shift-to, land, reduce-by, perform, move, and-then, moves}
-use Rattle.theory.specs.Maps.{forest, tree-algebra, Homomorphism, core-map, move-map}
+use Rattle.theory.specs.Maps.{forest, Homomorphism, core-map, move-map}
 use Rattle.theory.specs.Theorems.{Natural, ReadingMaps}
 
 map-reverseAux : {V W : Type 0} (h : V → W) (vs ws : List V) →

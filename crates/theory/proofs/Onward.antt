@@ -12,7 +12,7 @@ use Rattle.syntax.specs.Values.{Algebra, read, reads}
 use Rattle.table.specs.Automaton.{Automaton}
 use Rattle.theory.specs.Machine.{Core, core, on, accepts, fresh, move, moves, Leads}
 use Rattle.theory.specs.Maps.{forest, tree-algebra}
-use Rattle.theory.specs.Theorems.{TreeRead, ReadsAll, StaysOnTheWay, OneTree}
+use Rattle.theory.specs.Theorems.{ReadsAll, StaysOnTheWay, OneTree}
 use Rattle.theory.proofs.Clash.{clash}
 use Rattle.theory.proofs.Moves.{first-move, leads-moves}
 use Rattle.theory.proofs.View.{same-core}

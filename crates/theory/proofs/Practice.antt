@@ -1,29 +1,27 @@
 -- The practice table is valid.
-use mathlib.Core.Path.{_≡_, refl, sym, ap, subst, subst₂, _∙_}
+use mathlib.Core.Path.{_≡_, refl, sym, subst, subst₂, _∙_}
 use mathlib.Core.Bool.{Bool, true, false, _&&_, _||_}
-use mathlib.Core.List.{List, [], _∷_, _++_}
+use mathlib.Core.List.{List, [], _∷_}
 use mathlib.Core.Logic.{_⊎_, inl, inr, _≢_, _↔_}
 use Prim.Native.Nat.{ℕ, zero, suc, _+_, _≤_, _<_}
 use native.Mathlib.Omega.{arith}
 use lib.Dec.{T, eqb, eqb→eq, eqb-refl}
-use lib.ListN.{length, drop}
-use Rattle.std.specs.declared.option.Option.{Option}
-use Rattle.std.specs.declared.option.Option.the-variants.{Some, None}
+use lib.ListN.{length}
+use Rattle.std.specs.declared.option.Option.the-variants.{Some}
 use Rattle.syntax.specs.declared.Symbol.{Symbol}
 use Rattle.syntax.specs.declared.Symbol.the-variants.{Terminal, Nonterminal}
 use Rattle.syntax.specs.Grammar.{Rule, start, InRange, Every, Present}
-use Rattle.table.specs.declared.Action.{Action}
 use Rattle.table.specs.declared.Action.the-variants.{Shift, Reduce, Accept, Reject}
-use Rattle.table.specs.Automaton.{decide, nth}
+use Rattle.table.specs.Automaton.{decide}
 use Rattle.table.specs.Lawful.{narrow, State, RuleInRange, Lawful}
 use Rattle.table.specs.Hints.{Set, _∈_, _⊆_, Occupied, added, right-side, Behind, trail, shadow}
 use Rattle.table.specs.Hints.{Known, PastSet, LookAhead, HintsLawful}
-use Rattle.table.specs.Safety.{Ends, Covers, Edge, Reduces, GotosAt, Alone, Safe}
+use Rattle.table.specs.Safety.{Ends, Covers, GotosAt, Alone, Safe}
 use Rattle.table.specs.Completeness.{SomeRight, nullable-all, first-of, wanted, Complete}
 use Rattle.table.specs.Validity.{Valid}
-use Rattle.theory.specs.Practice.{empty-rule, longer-rule, rules, entries, defaults, actions, gotos, practice}
+use Rattle.theory.specs.Practice.{empty-rule, longer-rule, rules, entries, actions, gotos, practice}
 use Rattle.theory.specs.Practice.{past, sets, at-end, anywhere, items, looks-in, practice-hints}
-use Rattle.theory.proofs.Clash.{clash, some-some, none-some}
+use Rattle.theory.proofs.Clash.{clash, none-some}
 use Rattle.theory.proofs.PracticeCases.{each-rule, each-entry, each-default, each-goto, each-shift, each-accept, no-reduce}
 use Rattle.theory.proofs.PracticeCases.{each-edge, each-reduce, each-item, behind}
 

@@ -2,18 +2,16 @@
 use mathlib.Core.Path.{_≡_, refl, sym, ap, subst, subst₂, _∙_}
 use mathlib.Core.Bool.{Bool, true, false, cond, _&&_}
 use mathlib.Core.List.{List, [], _∷_}
-use mathlib.Core.Logic.{_⊎_, inl, inr, _≢_}
+use mathlib.Core.Logic.{inl, inr}
 use Prim.Native.Nat.{ℕ, zero, suc}
 use lib.Dec.{eqb}
 use lib.ListN.{drop}
 use Rattle.std.proofs.shelf.Tests.{eqb-true, and-parts}
-use Rattle.std.specs.declared.option.Option.{Option}
-use Rattle.std.specs.declared.option.Option.the-variants.{Some, None}
+use Rattle.std.specs.declared.option.Option.the-variants.{Some}
 use Rattle.syntax.specs.declared.Symbol.{Symbol}
 use Rattle.syntax.specs.declared.Symbol.the-variants.{Terminal, Nonterminal}
 use Rattle.syntax.specs.Grammar.{Rule}
-use Rattle.table.specs.declared.Action.{Action}
-use Rattle.table.specs.declared.Action.the-variants.{Shift, Reduce, Accept, Reject}
+use Rattle.table.specs.declared.Action.the-variants.{Shift, Reduce, Accept}
 use Rattle.table.specs.Hints.{Set, Occupied, added, right-side, Behind}
 use Rattle.table.specs.Safety.{Edge, Reduces}
 use Rattle.theory.specs.Practice.{empty-rule, longer-rule, rules, entries, defaults, actions, gotos, practice}

@@ -2,7 +2,7 @@
 use mathlib.Core.Path.{_≡_, refl, sym, ap, subst, _∙_}
 use mathlib.Core.Bool.{Bool, true, false, cond}
 use mathlib.Core.List.{List, [], _∷_}
-use mathlib.Core.Logic.{_⊎_, inl, inr}
+use mathlib.Core.Logic.{inl, inr}
 use Prim.Native.Nat.{ℕ}
 use native.Mathlib.Omega.{arith}
 use lib.ListN.{length, drop}
@@ -10,7 +10,6 @@ use Rattle.std.proofs.shelf.Tests.{and-from, le-leb}
 use Rattle.std.specs.declared.option.Option.{Option}
 use Rattle.std.specs.declared.option.Option.the-variants.{Some, None}
 use Rattle.std.specs.declared.result.Result.{Result}
-use Rattle.std.specs.declared.result.Result.the-variants.{Ok}
 use Rattle.syntax.specs.declared.Token.{Token}
 use Rattle.syntax.specs.Grammar.{Rule, start, Present}
 use Rattle.syntax.specs.Values.{Algebra}
@@ -18,11 +17,11 @@ use Rattle.table.specs.declared.Action.{Action}
 use Rattle.table.specs.declared.Action.the-variants.{Shift, Reduce, Accept, Reject}
 use Rattle.table.specs.Automaton.{Automaton}
 use Rattle.table.specs.Lawful.{Lawful}
-use Rattle.table.specs.Hints.{Set, Hints, shadow}
+use Rattle.table.specs.Hints.{Set, shadow}
 use Rattle.table.specs.Safety.{Reduces}
-use Rattle.table.specs.Validity.{SafeSomehow}
+use Rattle.table.specs.Validity.{SafeUnderHints}
 use Rattle.theory.specs.Machine.{Core, Move, on, accepts, rejects, slips, starves, current, seen, found, enters, carry-start}
-use Rattle.theory.specs.Machine.{landing-of, shift-to, land, reduce-by, accept-with, perform, move}
+use Rattle.theory.specs.Machine.{shift-to, land, reduce-by, accept-with, perform, move}
 use Rattle.theory.specs.Theorems.{NeverSlips}
 use Rattle.theory.proofs.Clash.{clash, some-some, none-some}
 use Rattle.theory.proofs.Symbols.{enters-own}
@@ -44,7 +43,7 @@ at-end : (ended : Bool) (a : ℕ) → seen ended [] ≡ Some a → a ≡ 0
 at-end true a e = sym (some-some e)
 at-end false a e = absurd (none-some e)
 
-module _ {states : ℕ} (M : Automaton) (safely : SafeSomehow states M) where
+module _ {states : ℕ} (M : Automaton) (safely : SafeUnderHints states M) where
   -- a reduce lands where the hints are true
   reduce-lands : (ss : List ℕ) → Hinted M (safely .hints) ss → (p : ℕ) (r : Rule) → Reduces M (current ss) p →
       M .grammar p ≡ Some r → (t : ℕ) × Landed M r ss t

@@ -11,12 +11,12 @@ use Rattle.syntax.specs.declared.Token.{Token}
 use Rattle.syntax.specs.declared.Symbol.{Symbol}
 use Rattle.syntax.specs.Grammar.{start, Kinded}
 use Rattle.syntax.specs.Trees.{Tree, Of, TreeOf, text, size, reach}
-use Rattle.syntax.specs.Values.{Algebra, read}
+use Rattle.syntax.specs.Values.{read}
 use Rattle.table.specs.Automaton.{Automaton}
 use Rattle.table.specs.Lawful.{Lawful}
 use Rattle.theory.specs.Machine.{Core, Move, on, accepts, rejects, slips, starves, fresh, current, seen, move, moves}
 use Rattle.theory.specs.Maps.{tree-algebra, core-map, move-map}
-use Rattle.theory.specs.Theorems.{Within, ReadWhole, AcceptsOnlyTrees}
+use Rattle.theory.specs.Theorems.{Within, AcceptsOnlyTrees}
 use Rattle.theory.proofs.Clash.{clash, some-some, none-some}
 use Rattle.theory.proofs.Symbols.{one-start}
 use Rattle.theory.proofs.Natural.{natural, reading-maps, move-natural}

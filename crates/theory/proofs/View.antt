@@ -18,7 +18,7 @@ use Rattle.table.specs.declared.Action.the-variants.{Shift, Reduce, Accept, Rej
 use Rattle.table.specs.Automaton.{Automaton}
 use Rattle.table.specs.Safety.{Reduces}
 use Rattle.theory.specs.Machine.{Core, core, Move, on, accepts, rejects, slips, starves, current, seen, looked}
-use Rattle.theory.specs.Machine.{unless-default, found, carry, carry-start, landed, landing, landing-of, shift-to, with-node, land}
+use Rattle.theory.specs.Machine.{unless-default, found, carry, carry-start, landed, landing-of, shift-to, with-node, land}
 use Rattle.theory.specs.Machine.{reduce-by, accept-with, perform, move, and-then}
 use Rattle.theory.proofs.Clash.{clash, some-some, none-some}
 

@@ -10,8 +10,8 @@ use Rattle.syntax.specs.Trees.{Tree, TreeOf, Makes, size, reach}
 use Rattle.syntax.specs.Values.{Algebra, read}
 use Rattle.table.specs.Automaton.{Automaton}
 use Rattle.table.specs.Lawful.{Lawful}
-use Rattle.table.specs.Validity.{SafeSomehow, CompleteSomehow}
-use Rattle.theory.specs.Machine.{Core, core, fresh, Move, on, accepts, rejects, slips, move, moves, Leads}
+use Rattle.table.specs.Validity.{SafeUnderHints, CompleteUnderHints}
+use Rattle.theory.specs.Machine.{Core, core, fresh, on, accepts, rejects, slips, move, moves, Leads}
 use Rattle.theory.specs.Maps.{tree-algebra, Homomorphism, core-map, move-map}
 
 -- naturality: moves with mapped values are the moves, with their values mapped
@@ -31,7 +31,7 @@ Within {V} R M ended w n L =
     (m : ℕ) (c : Core V) → m ≤ n → moves R M ended m (fresh w) ≡ on c → length (c .cells) ≤ L
 
 -- the text w has ended and was read to c in n moves and L cells, as the one value of a tree of it
-pub record ReadWhole {V : Type 0} (R : Algebra V) (M : Automaton) (ended : Bool) (w : List Token) (n L : ℕ)
+pub record TreeAccepted {V : Type 0} (R : Algebra V) (M : Automaton) (ended : Bool) (w : List Token) (n L : ℕ)
     (c : Core V) : Type 0 where
   pub tree : Tree
   pub of-text : TreeOf (M .grammar) w tree
@@ -45,7 +45,7 @@ pub record ReadWhole {V : Type 0} (R : Algebra V) (M : Automaton) (ended : Bool)
 abbrev pub AcceptsOnlyTrees : Type 0 → Type 0
 AcceptsOnlyTrees V = (states : ℕ) (M : Automaton) → Lawful states M →
     (R : Algebra V) (ended : Bool) (w : List Token) (n L : ℕ) (c : Core V) → Kinded w → Within R M ended w n L →
-    moves R M ended n (fresh w) ≡ on c → move R M ended c ≡ accepts → ReadWhole R M ended w n L c
+    moves R M ended n (fresh w) ≡ on c → move R M ended c ≡ accepts → TreeAccepted R M ended w n L c
 
 -- safety
 
@@ -55,7 +55,7 @@ NoSlips {V} R M = (ended : Bool) (n : ℕ) (w : List Token) (c : Core V) → mov
     (k : ℕ) → move R M ended c ≡ slips k → ⊥
 
 abbrev pub NeverSlips : Type 0 → Type 0
-NeverSlips V = (states : ℕ) (M : Automaton) → SafeSomehow states M → (R : Algebra V) → NoSlips R M
+NeverSlips V = (states : ℕ) (M : Automaton) → SafeUnderHints states M → (R : Algebra V) → NoSlips R M
 
 -- completeness
 
@@ -70,7 +70,7 @@ ReadsAll R M = (w : List Token) (t : Tree) → TreeOf (M .grammar) w t → TreeR
 
 abbrev pub ReadsEveryTree : Type 0 → Type 0
 ReadsEveryTree V =
-    (states : ℕ) (M : Automaton) → CompleteSomehow states M → (R : Algebra V) → NoSlips R M → ReadsAll R M
+    (states : ℕ) (M : Automaton) → CompleteUnderHints states M → (R : Algebra V) → NoSlips R M → ReadsAll R M
 
 -- what follows where every tree is read
 
@@ -91,7 +91,7 @@ StaysOnTheWay V = (M : Automaton) (R : Algebra V) → ReadsAll R M →
     (k : ℕ) (d : Core V) → moves R M true k (fresh w) ≡ on d → OnTheWay R M t k d
 
 -- with u taken and r to come nothing fits: no text begins with u and a token of the next kind, nor is u one at the end
-pub record Hopeless (M : Automaton) (ended : Bool) (u r : List Token) : Type 0 where
+pub record Refused (M : Automaton) (ended : Bool) (u r : List Token) : Type 0 where
   pub token-refused : (k : Token) (w : List Token) → r ≡ k ∷ w →
       (l : Token) (v : List Token) → l .kind ≡ k .kind → Makes (M .grammar) (u ++ (l ∷ v)) → ⊥
   pub end-refused : ended ≡ true → r ≡ [] → Makes (M .grammar) u → ⊥
@@ -100,4 +100,4 @@ pub record Hopeless (M : Automaton) (ended : Bool) (u r : List Token) : Type 0 w
 abbrev pub RejectsTheHopeless : Type 0 → Type 0
 RejectsTheHopeless V = (M : Automaton) (R : Algebra V) → ReadsAll R M →
     (ended : Bool) (n : ℕ) (u r : List Token) (c : Core V) → moves R M ended n (fresh (u ++ r)) ≡ on c → c .rest ≡ r →
-    move R M ended c ≡ rejects → Hopeless M ended u r
+    move R M ended c ≡ rejects → Refused M ended u r
