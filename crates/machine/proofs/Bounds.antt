@@ -32,24 +32,24 @@ granted-most (Tell ∷ cs) g le = granted-most cs g le
 granted-most (Stop ∷ cs) g le = le
 granted-most (Mark ∷ cs) g le = granted-most cs g le
 
-module _ {V : Type 0} (R : Algebra V) (run : Run V) (r : State V)
-    (T : Told R (run .table) (run .stream) (run .stack) (grant run) r) where
+module _ {V : Type 0} (R : Algebra V) (run : Run V) (r : State V) (T : Told R run (grant run) r) where
   bounded : Bounded run r
   bounded =
       let c = T .core in
-      let level = moves-level R (run .table) (ends (run .stream .ending)) (r .steps) (run .stream .tokens) c (T .tracks .moved) in
-      let count = ap length (cells-are R (run .table) (run .stream) (run .stack) (grant run) r T) in
+      let w = run .stream .tokens in
+      let moved = T .tracks .moved in
+      let level = moves-level R (run .table) (ends (run .stream .ending)) (r .steps) w c moved in
+      let count = ap length (cells-are R run (grant run) r T) in
       let turned-cells = length-reverse (c .cells) in
       let turned-values = length-reverse (c .values) in
-      let low = room-cells (run .stack .cells) (length (c .cells)) (T .tracks .high (r .steps) c (omega arith) (T .tracks .moved)) in
+      let high = T .tracks .high (r .steps) c (omega arith) moved in
+      let low = room-cells (run .stack .cells) (length (c .cells)) high in
       record {
         steps-granted = T .in-grant;
         grant-bounded = granted-most (run .calls) 0 (omega arith);
         cells-bounded = omega arith;
-        list-grown =
-            (reverse (c .values), list-is R (run .table) (run .stream) (run .stack) (grant run) r T, omega arith);
-        enough-trees = λ n is.
-            subst (λ (o : Outcome). Why R (run .table) (run .stream) (run .stack) (grant run) o c (r .steps)) is (T .why);
+        list-grown = (reverse (c .values), list-is R run (grant run) r T, omega arith);
+        enough-trees = λ n is. subst (λ (o : Outcome). Why R run (grant run) o c (r .steps)) is (T .why);
       }
 
 pub bounds : (V : Type 0) → Bounds V

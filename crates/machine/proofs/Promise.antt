@@ -49,7 +49,8 @@ size-positive (leaf k) = omega arith
 size-positive (node p ts) = omega arith
 
 -- on the way to a tree the machine goes on, within the tree's reach, or has read it: so it neither rejects nor slips
-module _ {V : Type 0} (R : Algebra V) (M : Automaton) (t : Tree) (k : ℕ) (c : Core V) (way : theory.OnTheWay R M t k c) where
+module _ {V : Type 0} (R : Algebra V) (M : Automaton) (t : Tree) (k : ℕ) (c : Core V)
+    (way : theory.OnTheWay R M t k c) where
   abbrev Goes : Type 0
   Goes = ((k < size t) × ((d : Core V) × (move R M true c ≡ on d) × (length (d .cells) ≤ reach t)))
       ⊎ (move R M true c ≡ accepts)
@@ -80,36 +81,40 @@ module _ {V : Type 0} (R : Algebra V) (M : Automaton) (t : Tree) (k : ℕ) (c : 
   in-tree d h = by goes
     where
       by : Goes → (k < size t) × (length (d .cells) ≤ reach t)
-      by (inl (l, (e, g, low))) = (l, subst (λ (x : Core V). length (x .cells) ≤ reach t) (same-core e d (sym g ∙ h)) low)
+      by (inl (l, (e, g, low))) =
+          let same = same-core e d (sym g ∙ h) in
+          (l, subst (λ (x : Core V). length (x .cells) ≤ reach t) same low)
       by (inr a) = absurd (clash (cc))
 
 module _ {V : Type 0} (R : Algebra V) (run : Run V) where
-  -- what is known of the reading r at the end of the run
-  abbrev Known : State V → Type 0
-  Known r = Told R (run .table) (run .stream) (run .stack) (grant run) r
+  abbrev ending : Bool
+  ending = ends (run .stream .ending)
 
-  module _ (r : State V) (T : Known r) where
-    -- what the outcome is, is why it is so
-    reason : (o : Outcome) → r .outcome ≡ o → Why R (run .table) (run .stream) (run .stack) (grant run) o (T .core) (r .steps)
-    reason o is =
-        subst (λ x. Why R (run .table) (run .stream) (run .stack) (grant run) x (T .core) (r .steps)) is (T .why)
+  -- r is the reading at the end of the run
+  module _ (r : State V) (T : Told R run (grant run) r) where
+    -- why it has the outcome o
+    abbrev Since : Outcome → Type 0
+    Since o = Why R run (grant run) o (T .core) (r .steps)
+
+    since : (o : Outcome) → r .outcome ≡ o → Since o
+    since o is = subst Since is (T .why)
 
     to-come : r .stream .tokens ≡ T .core .rest
-    to-come = tokens-are R (run .table) (run .stream) (run .stack) (grant run) r T
+    to-come = tokens-are R run (grant run) r T
 
     -- what is accepted
 
     module _ (states : ℕ) (law : Lawful states (run .table)) (kinded : Kinded (run .stream .tokens)) where
-      read-by-machine : r .outcome ≡ Accepted → theory.TreeAccepted R (run .table) (ends (run .stream .ending))
-          (run .stream .tokens) (r .steps) (room (run .stack .cells)) (T .core)
-      read-by-machine is =
-          accepts-only-trees V states (run .table) law R (ends (run .stream .ending)) (run .stream .tokens) (r .steps)
-          (room (run .stack .cells)) (T .core) kinded (T .tracks .high) (T .tracks .moved) (reason Accepted is)
+      tree-accepted : r .outcome ≡ Accepted → theory.TreeAccepted R (run .table) ending (run .stream .tokens) (r .steps)
+          (room (run .stack .cells)) (T .core)
+      tree-accepted is =
+          accepts-only-trees V states (run .table) law R ending (run .stream .tokens) (r .steps)
+          (room (run .stack .cells)) (T .core) kinded (T .tracks .high) (T .tracks .moved) (since Accepted is)
 
       read-whole : r .outcome ≡ Accepted → ReadWhole R run r
       read-whole is =
-          let W = read-by-machine is in
-          let listed = list-is R (run .table) (run .stream) (run .stack) (grant run) r T in
+          let W = tree-accepted is in
+          let listed = list-is R run (grant run) r T in
           record {
             has-ended = ends-true (run .stream .ending) (W .has-ended);
             tree = W .tree;
@@ -120,7 +125,7 @@ module _ {V : Type 0} (R : Algebra V) (run : Run V) where
 
       fitting-tree : r .outcome ≡ Accepted → FittingTree run
       fitting-tree is =
-          let W = read-by-machine is in
+          let W = tree-accepted is in
           let t = W .tree in
           let count = W .steps-are in
           let granted-it = T .in-grant in
@@ -140,20 +145,20 @@ module _ {V : Type 0} (R : Algebra V) (run : Run V) where
 
     module _ (states : ℕ) (v : Valid states (run .table)) where
       module _ (t : Tree) (o : TreeOf (run .table .grammar) (run .stream .tokens) t) (f : Fits run t) where
-        same-end : ends (run .stream .ending) ≡ true
+        same-end : ending ≡ true
         same-end = ap ends (f .has-ended)
 
-        same-move : move R (run .table) true (T .core) ≡ next-move R (run .table) (run .stream) (run .stack) (T .core)
+        same-move : move R (run .table) true (T .core) ≡ next-move R run (T .core)
         same-move = ap (λ (b : Bool). move R (run .table) b (T .core)) (sym same-end)
 
         on-the-way : theory.OnTheWay R (run .table) t (r .steps) (T .core)
         on-the-way =
+            let w = run .stream .tokens in
+            let same = ap (λ (b : Bool). moves R (run .table) b (r .steps) (fresh w)) (sym same-end) in
             let all = reads-all (run .table) v R in
-            let moved = subst (λ (b : Bool). moves R (run .table) b (r .steps) (fresh (run .stream .tokens)) ≡ on (T .core))
-            same-end (T .tracks .moved) in
-            stays-on-the-way V (run .table) R all (run .stream .tokens) t o (r .steps) (T .core) moved
+            stays-on-the-way V (run .table) R all w t o (r .steps) (T .core) (same ∙ T .tracks .moved)
 
-        waits-no-more : Waits R (run .table) (run .stream) (run .stack) (grant run) (T .core) (r .steps) → ⊥
+        waits-no-more : Waits R run (grant run) (T .core) (r .steps) → ⊥
         waits-no-more (spent-it, inl none) =
             let a = f .in-grant in
             let b = size-positive t in
@@ -163,24 +168,29 @@ module _ {V : Type 0} (R : Algebra V) (run : Run V) where
             let b = on-the-way .steps in
             not-yet (sym same-move ∙ on-the-way .ends-well (omega arith))
 
-        room-enough : (d : Core V) → next-move R (run .table) (run .stream) (run .stack) (T .core) ≡ on d →
+        room-enough : (d : Core V) → next-move R run (T .core) ≡ on d →
             (r .steps < size t) × (length (d .cells) ≤ reach t)
         room-enough d h = in-tree R (run .table) t (r .steps) (T .core) on-the-way d (same-move ∙ h)
 
+        -- so neither what the sink has nor the cells run out
+        abbrev Short : Core V → Type 0
+        Short d =
+            (AtMost (suc (r .steps)) (run .stack .records) → ⊥) ⊎ (AtMost (length (d .cells)) (run .stack .cells) → ⊥)
+
+        not-short : (d : Core V) → next-move R run (T .core) ≡ on d → Short d → ⊥
+        not-short d h (inl none) =
+            none (at-most-below (suc (r .steps)) (size t) (run .stack .records) (room-enough d h .0) (f .in-records))
+        not-short d h (inr none) =
+            none (at-most-below (length (d .cells)) (reach t) (run .stack .cells) (room-enough d h .1) (f .in-sink))
+
         -- nothing but accepted is left
-        accepted : (x : Outcome) → r .outcome ≡ x → Why R (run .table) (run .stream) (run .stack) (grant run) x (T .core) (r .steps) →
-            r .outcome ≡ Accepted
+        accepted : (x : Outcome) → r .outcome ≡ x → Since x → r .outcome ≡ Accepted
         accepted More is y = absurd (waits-no-more y)
         accepted Accepted is y = is
         accepted (Rejected p) is y =
             absurd (not-rejected R (run .table) t (r .steps) (T .core) on-the-way (same-move ∙ y .0))
         accepted (Halted (Source g)) is y = let h = f .has-ended in absurd (clash (cc))
-        accepted (Halted (Sink (Full n))) is (d, moved, short) = let (l, low) = room-enough d moved in absurd (by l low short)
-          where
-            by : r .steps < size t → length (d .cells) ≤ reach t →
-                (AtMost (suc (r .steps)) (run .stack .records) → ⊥) ⊎ (AtMost (length (d .cells)) (run .stack .cells) → ⊥) → ⊥
-            by l low (inl h) = h (at-most-below (suc (r .steps)) (size t) (run .stack .records) l (f .in-records))
-            by l low (inr h) = h (at-most-below (length (d .cells)) (reach t) (run .stack .cells) low (f .in-sink))
+        accepted (Halted (Sink (Full n))) is (d, moved, short) = absurd (not-short d moved short)
         accepted (Halted (Sink (TooFewTrees n))) is y = absurd y
         accepted (Halted (Cells n)) is (d, moved, high) =
             let low = room-enough d moved .1 in
@@ -195,26 +205,27 @@ module _ {V : Type 0} (R : Algebra V) (run : Run V) where
 
       not-slipped-ever : (k : ℕ) → r .outcome ≡ Halted (Slip k) → ⊥
       not-slipped-ever k is =
-          no-slips (run .table) v R (ends (run .stream .ending)) (r .steps) (run .stream .tokens) (T .core) (T .tracks .moved) k
-          (reason (Halted (Slip k)) is)
+          let slipped = since (Halted (Slip k)) is in
+          no-slips (run .table) v R ending (r .steps) (run .stream .tokens) (T .core) (T .tracks .moved) k slipped
 
       hopeless : (p : Option ℕ) → r .outcome ≡ Rejected p → Hopeless run r p
       hopeless p is =
-          let (rejected, place, at-end) = reason (Rejected p) is in
-          let b = ends (run .stream .ending) in
+          let (rejected, place, at-end) = since (Rejected p) is in
           let M = run .table in
-          let again = replayed R M b (r .steps) (fresh (run .stream .tokens)) (T .core) (T .tracks .moved) in
-          let moved = subst (λ w. moves R M b (r .steps) (fresh w) ≡ on (T .core)) (again .rest-is) (T .tracks .moved) in
-          let all = reads-all M v R in
-          let H = rejects-the-hopeless V M R all b (r .steps) (again .taken) (T .core .rest) (T .core) moved refl rejected in
+          let n = r .steps in
+          let c = T .core in
+          let P = replayed R M ending n (fresh (run .stream .tokens)) c (T .tracks .moved) in
+          let moved = subst (λ w. moves R M ending n (fresh w) ≡ on c) (P .rest-is) (T .tracks .moved) in
+          let H =
+                rejects-the-hopeless V M R (reads-all M v R) ending n (P .taken) (c .rest) c moved refl rejected in
           record {
-            taken = again .taken;
-            text-is = again .rest-is ∙ ap (λ w. again .taken ++ w) (sym to-come);
+            taken = P .taken;
+            text-is = P .rest-is ∙ ap (λ w. P .taken ++ w) (sym to-come);
             place-is = place ∙ ap place-of-next (sym to-come);
             token-refused = λ k ks next w made. H .token-refused k ks (sym to-come ∙ next) k w refl made;
             end-refused = λ none.
-                let last = at-end (sym to-come ∙ none) in
-                (last, λ made. H .end-refused (ap ends last) (sym to-come ∙ none) made);
+              let last = at-end (sym to-come ∙ none) in
+              (last, λ made. H .end-refused (ap ends last) (sym to-come ∙ none) made);
           }
 
 pub promise : (V : Type 0) → Promise V

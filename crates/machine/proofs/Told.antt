@@ -10,25 +10,21 @@ use lib.ListN.{length}
 use Rattle.std.proofs.shelf.Lists.{append-nil}
 use Rattle.std.specs.declared.option.Option.the-variants.{Some, None}
 use Rattle.syntax.specs.Values.{Algebra}
-use Rattle.table.specs.Automaton.{Automaton}
-use Rattle.theory.specs.Machine.{Core, fresh, on, accepts, moves}
-use Rattle.theory.specs.Theorems.{Within}
+use Rattle.theory.specs.Machine.{Core, fresh, on, accepts}
 use Rattle.theory.proofs.Clash.{clash}
 use Rattle.theory.proofs.View.{same-core}
-use Rattle.source.specs.Streams.{Stream}
-use Rattle.sink.specs.Stacks.{Count, Stack}
+use Rattle.sink.specs.Stacks.{Count}
 use Rattle.outcome.specs.declared.Outcome.{Outcome}
 use Rattle.outcome.specs.declared.Outcome.the-variants.{More, Accepted, Rejected, Halted, Stopped}
-use Rattle.outcome.specs.declared.Declined.the-variants.{Ended, TooManySteps, BeforeEnd}
+use Rattle.outcome.specs.declared.Declined.the-variants.{TooManySteps, BeforeEnd}
 use Rattle.outcome.specs.declared.Call.{Call}
 use Rattle.outcome.specs.declared.Call.the-variants.{Turn, Stop, Mark, Report as Tell}
 use Rattle.outcome.specs.Numbers.{ended}
 use Rattle.machine.specs.Reading.{State, most-steps, found-in, settled, step, go-on, spend}
 use Rattle.machine.specs.Calls.{unless, called, after-calls}
 use Rattle.machine.specs.Runs.{Run, new, after, granted, grant}
-use Rattle.machine.proofs.Alike.{ends}
 use Rattle.machine.proofs.Counts.{left-all, room}
-use Rattle.machine.proofs.Tracks.{at, next-move, Tracks, Reason, Stepped, step-tracks, look-tracks}
+use Rattle.machine.proofs.Tracks.{at, next-move, moves-made, Inside, Tracks, Reason, Stepped, step-tracks, look-tracks}
 
 -- an ended reading stays as it is
 
@@ -50,25 +46,25 @@ module _ {V : Type 0} (R : Algebra V) where
   calls-stay [] r i = refl
   calls-stay (c ∷ cs) r i = ap (after-calls R cs) (called-stays c r i) ∙ calls-stay cs r i
 
-module _ {V : Type 0} (R : Algebra V) (M : Automaton) (stream : Stream) (K : Stack V) where
+module _ {V : Type 0} (R : Algebra V) (run : Run V) where
   -- all that was granted was spent, and no accept was overlooked
   abbrev pub Waits : ℕ → Core V → ℕ → Type 0
-  Waits g c n = (g ≡ n) × ((n ≡ 0) ⊎ (next-move R M stream K c ≡ accepts → ⊥))
+  Waits g c n = (g ≡ n) × ((n ≡ 0) ⊎ (next-move R run c ≡ accepts → ⊥))
 
   -- why a reading at c stands as it does after n steps of g granted ones
   abbrev pub Why : ℕ → Outcome → Core V → ℕ → Type 0
   Why g More c n = Waits g c n
-  Why g Accepted c n = Reason R M stream K Accepted c n
-  Why g (Rejected p) c n = Reason R M stream K (Rejected p) c n
-  Why g (Halted h) c n = Reason R M stream K (Halted h) c n
+  Why g Accepted c n = Reason R run Accepted c n
+  Why g (Rejected p) c n = Reason R run (Rejected p) c n
+  Why g (Halted h) c n = Reason R run (Halted h) c n
   Why g Stopped c n = Waits g c n
 
   pub record Told (g : ℕ) (r : State V) : Type 0 where
     pub core : Core V
     pub records : Count
     pub cells : Count
-    pub is : r ≡ at R M stream K core records cells (r .steps) (r .outcome)
-    pub tracks : Tracks R M stream K core records cells (r .steps)
+    pub is : r ≡ at R run core records cells (r .steps) (r .outcome)
+    pub tracks : Tracks R run core records cells (r .steps)
     pub in-grant : r .steps ≤ g
     pub why : Why g (r .outcome) core (r .steps)
 
@@ -76,7 +72,7 @@ module _ {V : Type 0} (R : Algebra V) (M : Automaton) (stream : Stream) (K : Sta
     pub tokens-are : r .stream .tokens ≡ T .core .rest
     tokens-are = ap (λ (s : State V). s .stream .tokens) (T .is)
 
-    pub list-is : r .stack .list ≡ K .list ++ reverse (T .core .values)
+    pub list-is : r .stack .list ≡ run .stack .list ++ reverse (T .core .values)
     list-is = ap (λ (s : State V). s .stack .list) (T .is)
 
     pub cells-are : r .cells ≡ reverse (T .core .cells)
@@ -93,21 +89,21 @@ module _ {V : Type 0} (R : Algebra V) (M : Automaton) (stream : Stream) (K : Sta
   abbrev Running : ℕ → State V → Type 0
   Running g r = Told g r × Unstopped (r .outcome)
 
-  told-at : (g : ℕ) (c : Core V) (a b : Count) (n : ℕ) (o : Outcome) → Tracks R M stream K c a b n → n ≤ g →
-      Why g o c n → Told g (at R M stream K c a b n o)
+  told-at : (g : ℕ) (c : Core V) (a b : Count) (n : ℕ) (o : Outcome) → Tracks R run c a b n → n ≤ g →
+      Why g o c n → Told g (at R run c a b n o)
   told-at g c a b n o T le y =
       record { core = c; records = a; cells = b; is = refl; tracks = T; in-grant = le; why = y }
 
   -- a reading that ended by itself
-  reason-told : (g : ℕ) (c : Core V) (a b : Count) (n : ℕ) (o : Outcome) → Tracks R M stream K c a b n → n ≤ g →
-      Reason R M stream K o c n → Running g (at R M stream K c a b n o)
+  reason-told : (g : ℕ) (c : Core V) (a b : Count) (n : ℕ) (o : Outcome) → Tracks R run c a b n → n ≤ g →
+      Reason R run o c n → Running g (at R run c a b n o)
   reason-told g c a b n More T le E = absurd E
   reason-told g c a b n Accepted T le E = (told-at g c a b n Accepted T le E, tt)
   reason-told g c a b n (Rejected p) T le E = (told-at g c a b n (Rejected p) T le E, tt)
   reason-told g c a b n (Halted h) T le E = (told-at g c a b n (Halted h) T le E, tt)
   reason-told g c a b n Stopped T le E = absurd E
 
-  reason-ends : (c : Core V) (n : ℕ) (o : Outcome) → Reason R M stream K o c n → ended o ≡ true
+  reason-ends : (c : Core V) (n : ℕ) (o : Outcome) → Reason R run o c n → ended o ≡ true
   reason-ends c n More E = absurd E
   reason-ends c n Accepted E = refl
   reason-ends c n (Rejected p) E = refl
@@ -116,31 +112,33 @@ module _ {V : Type 0} (R : Algebra V) (M : Automaton) (stream : Stream) (K : Sta
 
   -- turns
 
-  look-told : (g : ℕ) (c : Core V) (a b : Count) (n : ℕ) → Tracks R M stream K c a b n → g ≡ n → (o : Outcome) →
-      ((o ≡ More) × (next-move R M stream K c ≡ accepts → ⊥)) ⊎ Reason R M stream K o c n →
-      Running g (at R M stream K c a b n o)
+  look-told : (g : ℕ) (c : Core V) (a b : Count) (n : ℕ) → Tracks R run c a b n → g ≡ n → (o : Outcome) →
+      ((o ≡ More) × (next-move R run c ≡ accepts → ⊥)) ⊎ Reason R run o c n →
+      Running g (at R run c a b n o)
   look-told g c a b n T eg o (inl (is, not-yet)) =
       let now = told-at g c a b n More T (omega arith) (eg, inr not-yet) in
-      subst (λ (x : Outcome). Running g (at R M stream K c a b n x)) (sym is) (now, tt)
+      subst (λ (x : Outcome). Running g (at R run c a b n x)) (sym is) (now, tt)
   look-told g c a b n T eg o (inr E) = reason-told g c a b n o T (omega arith) E
 
-  spend-told : (m g : ℕ) (c : Core V) (a b : Count) (n : ℕ) → Tracks R M stream K c a b n → g ≡ n + m →
-      Running g (spend R m (at R M stream K c a b n More))
+  spend-told : (m g : ℕ) (c : Core V) (a b : Count) (n : ℕ) → Tracks R run c a b n → g ≡ n + m →
+      Running g (spend R m (at R run c a b n More))
   spend-told zero g c a b n T eg =
-      let r = at R M stream K c a b n More in
-      look-told g c a b n T (omega arith) (settled r (found-in r)) (look-tracks R M stream K c a b n T)
+      let r = at R run c a b n More in
+      look-told g c a b n T (omega arith) (settled r (found-in r)) (look-tracks R run c a b n T)
   spend-told (suc m) g c a b n T eg =
-      go (step R (at R M stream K c a b n More)) (step-tracks R M stream K c a b n T) (λ d x y. spend-told m g d x y (n + 1))
+      let r = at R run c a b n More in
+      go (step R r) (step-tracks R run c a b n T) (λ d x y. spend-told m g d x y (n + 1))
     where
-      go : (s : State V) → Stepped R M stream K c a b n s →
-          ((d : Core V) (x y : Count) → Tracks R M stream K d x y (n + 1) → g ≡ (n + 1) + m →
-          Running g (spend R m (at R M stream K d x y (n + 1) More))) →
+      go : (s : State V) → Stepped R run c a b n s →
+          ((d : Core V) (x y : Count) → Tracks R run d x y (n + 1) → g ≡ (n + 1) + m →
+          Running g (spend R m (at R run d x y (n + 1) More))) →
           Running g (go-on R (ended (s .outcome)) (λ x. spend R m x) s)
       go s (inl (d, x, y, is, T′)) again =
           subst (λ (z : State V). Running g (go-on R (ended (z .outcome)) (λ x. spend R m x) z)) (sym is)
           (again d x y T′ (omega arith))
       go s (inr (o, is, E)) again =
-          let stays = ap (λ (t : Bool). go-on R t (λ x. spend R m x) (at R M stream K c a b n o)) (reason-ends c n o E) in
+          let r = at R run c a b n o in
+          let stays = ap (λ (t : Bool). go-on R t (λ x. spend R m x) r) (reason-ends c n o E) in
           let told = subst (Running g) (sym stays) (reason-told g c a b n o T (omega arith) E) in
           subst (λ (z : State V). Running g (go-on R (ended (z .outcome)) (λ x. spend R m x) z)) (sym is) told
 
@@ -169,10 +167,18 @@ module _ {V : Type 0} (R : Algebra V) (M : Automaton) (stream : Stream) (K : Sta
 
   -- a reading that runs is at its core
   abbrev here : (g : ℕ) (r : State V) → Told g r → State V
-  here g r T = at R M stream K (T .core) (T .records) (T .cells) (r .steps) More
+  here g r T = at R run (T .core) (T .records) (T .cells) (r .steps) More
 
   runs-at : (g : ℕ) (r : State V) (T : Told g r) → r .outcome ≡ More → r ≡ here g r T
-  runs-at g r T m = T .is ∙ ap (λ o. at R M stream K (T .core) (T .records) (T .cells) (r .steps) o) m
+  runs-at g r T m = T .is ∙ ap (λ o. at R run (T .core) (T .records) (T .cells) (r .steps) o) m
+
+  -- what is left of a turn of a reading that runs: it is taken, or declined for its steps
+  abbrev taken : ℕ → State V → Bool → State V
+  taken n r few = unless (cond few None (Some (TooManySteps (r .steps)))) (λ s. spend R n s) r
+
+  turn-by : (n g : ℕ) (r : State V) → r .outcome ≡ More → g ≡ r .steps →
+      called R (Turn n) r ≡ taken n r (leb (g + n) most-steps)
+  turn-by n g r m eg = rw (m, eg) refl
 
   turn-told : (n g : ℕ) (r : State V) → Running g r →
       Running (cond (leb (g + n) most-steps) (g + n) g) (called R (Turn n) r)
@@ -185,9 +191,7 @@ module _ {V : Type 0} (R : Algebra V) (M : Automaton) (stream : Stream) (K : Sta
       grows true = omega arith
       grows false = omega arith
 
-      -- the turn is taken, or declined
-      by : (b : Bool) → g ≡ r .steps → r .outcome ≡ More → Running (cond b (g + n) g)
-          (unless (cond b None (Some (TooManySteps (r .steps)))) (λ s. spend R n s) r)
+      by : (b : Bool) → g ≡ r .steps → r .outcome ≡ More → Running (cond b (g + n) g) (taken n r b)
       by true eg m =
           let told = spend-told n (g + n) (T .core) (T .records) (T .cells) (r .steps) (T .tracks) (omega arith) in
           subst (λ (s : State V). Running (g + n) (spend R n s)) (sym (runs-at g r T m)) told
@@ -196,12 +200,7 @@ module _ {V : Type 0} (R : Algebra V) (M : Automaton) (stream : Stream) (K : Sta
       go : (r .outcome ≡ More) ⊎ (ended (r .outcome) ≡ true) → Running g′ (called R (Turn n) r)
       go (inl m) =
           let eg : g ≡ r .steps = subst (λ (o : Outcome). Why g o (T .core) (r .steps)) m (T .why) .0 in
-          let told = by (leb (g + n) most-steps) eg m in
-          let same-test = subst (λ (k : ℕ). Running g′
-          (unless (cond (leb (k + n) most-steps) None (Some (TooManySteps (r .steps)))) (λ s. spend R n s) r)) eg told in
-          subst (λ (o : Outcome). Running g′ (unless (cond (ended o) (Some (Ended (r .steps)))
-          (cond (leb (r .steps + n) most-steps) None (Some (TooManySteps (r .steps))))) (λ s. spend R n s) r))
-          (sym m) same-test
+          subst (Running g′) (sym (turn-by n g r m eg)) (by (leb (g + n) most-steps) eg m)
       go (inr i) =
           subst (Running g′) (sym (called-stays R (Turn n) r i))
           (told-more g g′ r (grows (leb (g + n) most-steps)) i (T, u))
@@ -213,8 +212,8 @@ module _ {V : Type 0} (R : Algebra V) (M : Automaton) (stream : Stream) (K : Sta
     where
       go : (r .outcome ≡ More) ⊎ (ended (r .outcome) ≡ true) → Told g (after-calls R cs (called R Stop r))
       go (inl m) =
-          let waits : Waits g (T .core) (r .steps) = subst (λ (o : Outcome). Why g o (T .core) (r .steps)) m (T .why) in
-          let s = at R M stream K (T .core) (T .records) (T .cells) (r .steps) Stopped in
+          let waits = subst (λ (o : Outcome). Why g o (T .core) (r .steps)) m (T .why) in
+          let s = at R run (T .core) (T .records) (T .cells) (r .steps) Stopped in
           let told = told-at g (T .core) (T .records) (T .cells) (r .steps) Stopped (T .tracks) (T .in-grant) waits in
           subst (λ (x : State V). Told g (after-calls R cs (called R Stop x))) (sym (runs-at g r T m))
           (subst (Told g) (sym (calls-stay R cs s refl)) told)
@@ -230,7 +229,9 @@ module _ {V : Type 0} (R : Algebra V) (M : Automaton) (stream : Stream) (K : Sta
       calls-told cs (cond (leb (g + n) most-steps) (g + n) g) (called R (Turn n) r) (turn-told n g r T)
   calls-told (Tell ∷ cs) g r T = calls-told cs g r T
   calls-told (Stop ∷ cs) g r T = stop-told cs g r (T .0)
-  calls-told (Mark ∷ cs) g r T = subst (λ (s : State V). Told (granted g cs) (after-calls R cs s)) (sym (marked (ended (r .outcome)))) (calls-told cs g r T)
+  calls-told (Mark ∷ cs) g r T =
+      subst (λ (s : State V). Told (granted g cs) (after-calls R cs s)) (sym (marked (ended (r .outcome))))
+      (calls-told cs g r T)
     where
       marked : (b : Bool) → unless (cond b None (Some (BeforeEnd (r .steps)))) (λ s. s) r ≡ r
       marked true = refl
@@ -238,37 +239,44 @@ module _ {V : Type 0} (R : Algebra V) (M : Automaton) (stream : Stream) (K : Sta
 
   -- a new reading
 
-  none-high : Within R M (ends (stream .ending)) (stream .tokens) 0 (room (K .cells))
+  none-high : Inside R run 0 (room (run .stack .cells))
   none-high m c le h = go m le h
     where
-      go : (k : ℕ) → k ≤ 0 → moves R M (ends (stream .ending)) k (fresh (stream .tokens)) ≡ on c →
-          length (c .cells) ≤ room (K .cells)
-      go zero l g = let none = ap (λ (d : Core V). length (d .cells)) (same-core (fresh (stream .tokens)) c g) in omega arith
+      go : (k : ℕ) → k ≤ 0 → moves-made R run k ≡ on c → length (c .cells) ≤ room (run .stack .cells)
+      go zero l g =
+          let same = same-core (fresh (run .stream .tokens)) c g in
+          let none = ap (λ (d : Core V). length (d .cells)) same in
+          omega arith
       go (suc k) l g = absurd (omega arith)
 
-  new-told : Running 0 (new M stream K)
-  new-told = (
-    record {
-      core = fresh (stream .tokens);
-      records = K .records;
-      cells = K .cells;
-      is = λ i. new M stream (record { list = sym (append-nil (K .list)) i; records = K .records; cells = K .cells });
-      tracks = record {
-        moved = refl;
-        records-left = left-all (K .records);
-        cells-left = left-all (K .cells);
-        high = none-high;
-      };
-      in-grant = omega arith;
-      why = (refl, inl refl);
-    },
-    tt,
-  )
+  none-tracks : Tracks R run (fresh (run .stream .tokens)) (run .stack .records) (run .stack .cells) 0
+  none-tracks = record {
+    moved = refl;
+    records-left = left-all (run .stack .records);
+    cells-left = left-all (run .stack .cells);
+    high = none-high;
+  }
+
+  abbrev begin : State V
+  begin = new (run .table) (run .stream) (run .stack)
+
+  begin-is : begin ≡ at R run (fresh (run .stream .tokens)) (run .stack .records) (run .stack .cells) 0 More
+  begin-is =
+      let K = run .stack in
+      let grown = sym (append-nil (K .list)) in
+      λ i. new (run .table) (run .stream) (record { list = grown i; records = K .records; cells = K .cells })
+
+  begin-told : Told 0 begin
+  begin-told = record {
+    core = fresh (run .stream .tokens);
+    records = run .stack .records;
+    cells = run .stack .cells;
+    is = begin-is;
+    tracks = none-tracks;
+    in-grant = omega arith;
+    why = (refl, inl refl);
+  }
 
 -- every run
-pub run-told : {V : Type 0} (R : Algebra V) (run : Run V) →
-    Told R (run .table) (run .stream) (run .stack) (grant run) (after R run)
-run-told R run =
-    let start = new (run .table) (run .stream) (run .stack) in
-    calls-told R (run .table) (run .stream) (run .stack) (run .calls) 0 start
-    (new-told R (run .table) (run .stream) (run .stack))
+pub run-told : {V : Type 0} (R : Algebra V) (run : Run V) → Told R run (grant run) (after R run)
+run-told R run = calls-told R run (run .calls) 0 (begin R run) (begin-told R run, tt)

@@ -8,7 +8,8 @@ use native.Mathlib.Omega.{arith}
 use lib.Dec.{eqb, leb, ltb}
 use lib.ListN.{length, take, drop}
 use Rattle.std.proofs.shelf.Lists.{length-append, length-reverse, length-drop}
-use Rattle.std.proofs.shelf.Tests.{eqb-true, leb-true, leb-false, le-ltb, cases-lt, and-parts, and-left, or-cases, or-parts}
+use Rattle.std.proofs.shelf.Tests.{eqb-true, leb-true, leb-false, le-ltb, cases-lt}
+use Rattle.std.proofs.shelf.Tests.{and-parts, and-left, or-cases, or-parts}
 use Rattle.std.specs.declared.option.Option.{Option}
 use Rattle.std.specs.declared.option.Option.the-variants.{Some, None}
 use Rattle.std.specs.declared.result.Result.{Result}
@@ -33,13 +34,23 @@ use Rattle.outcome.specs.declared.Outcome.{Outcome}
 use Rattle.outcome.specs.declared.Outcome.the-variants.{More, Accepted, Rejected, Halted, Stopped}
 use Rattle.machine.specs.Reading.{State, most-cells, place-of-next, found-in, settled, stepped, sent-to, if-room}
 use Rattle.machine.specs.Reading.{halt, found, shifting, going, reducing, step-by, step}
-use Rattle.machine.specs.Runs.{AtMost}
+use Rattle.machine.specs.Runs.{Run, AtMost}
 use Rattle.machine.proofs.Alike.{ends, without-fault, stream-of, found-alike, found-fault, found-reject}
 use Rattle.machine.proofs.Alike.{landing-alike, start-alike}
 use Rattle.machine.proofs.Counts.{Left, left-at-most, spent-at-most, left-on, room, in-room}
 use Rattle.machine.proofs.Turned.{pushed, front-turned, back-turned, last-turned}
 
-module _ {V : Type 0} (R : Algebra V) (M : Automaton) (stream : Stream) (K : Stack V) where
+module _ {V : Type 0} (R : Algebra V) (run : Run V) where
+  -- what stood at new
+  abbrev M : Automaton
+  M = run .table
+
+  abbrev stream : Stream
+  stream = run .stream
+
+  abbrev K : Stack V
+  K = run .stack
+
   -- the reading where the machine is at c, after n steps, with what is left of the sink's records and cells
   abbrev pub at : Core V → Count → Count → ℕ → Outcome → State V
   at c a b n o = record {
@@ -51,15 +62,22 @@ module _ {V : Type 0} (R : Algebra V) (M : Automaton) (stream : Stream) (K : Sta
     outcome = o;
   }
 
+  -- the machine without bounds, on the same text
   abbrev pub next-move : Core V → Move V
   next-move c = move R M (ends (stream .ending)) c
 
+  abbrev pub moves-made : ℕ → Move V
+  moves-made n = moves R M (ends (stream .ending)) n (fresh (stream .tokens))
+
+  abbrev pub Inside : ℕ → ℕ → Type 0
+  Inside n L = Within R M (ends (stream .ending)) (stream .tokens) n L
+
   -- n steps and the counts left are those of n moves that led to c
   pub record Tracks (c : Core V) (a b : Count) (n : ℕ) : Type 0 where
-    pub moved : moves R M (ends (stream .ending)) n (fresh (stream .tokens)) ≡ on c
+    pub moved : moves-made n ≡ on c
     pub records-left : Left (K .records) n a
     pub cells-left : Left (K .cells) (length (c .cells)) b
-    pub high : Within R M (ends (stream .ending)) (stream .tokens) n (room (K .cells))
+    pub high : Inside n (room (K .cells))
 
   -- why a reading at c ended by itself after n steps
   abbrev pub Reason : Outcome → Core V → ℕ → Type 0
@@ -103,17 +121,15 @@ module _ {V : Type 0} (R : Algebra V) (M : Automaton) (stream : Stream) (K : Sta
     outcome = More;
   }
 
-  within-more : (n L : ℕ) (d : Core V) → Within R M (ends (stream .ending)) (stream .tokens) n L →
-      moves R M (ends (stream .ending)) (n + 1) (fresh (stream .tokens)) ≡ on d → length (d .cells) ≤ L →
-      Within R M (ends (stream .ending)) (stream .tokens) (n + 1) L
-  within-more n L d W h le m c lm hm = go (cases-lt m (n + 1))
+  inside-more : (n L : ℕ) (d : Core V) → Inside n L → moves-made (n + 1) ≡ on d → length (d .cells) ≤ L → Inside (n + 1) L
+  inside-more n L d W h le m c lm hm = go (cases-lt m (n + 1))
     where
       go : (suc m ≤ n + 1) ⊎ (n + 1 ≤ m) → length (c .cells) ≤ L
       go (inl l) = W m c (omega arith) hm
       go (inr g) =
           let same : m ≡ n + 1 = omega arith in
-          let there = ap (λ k. moves R M (ends (stream .ending)) k (fresh (stream .tokens))) (sym same) in
-          subst (λ (x : Core V). length (x .cells) ≤ L) (same-core d c (sym h ∙ there ∙ hm)) le
+          let there = sym h ∙ ap (λ k. moves-made k) (sym same) ∙ hm in
+          subst (λ (x : Core V). length (x .cells) ≤ L) (same-core d c there) le
 
   module _ (c : Core V) (a b : Count) (n : ℕ) (T : Tracks c a b n) where
     level : length (c .values) ≡ length (c .cells)
@@ -124,19 +140,22 @@ module _ {V : Type 0} (R : Algebra V) (M : Automaton) (stream : Stream) (K : Sta
     no-room k = spent a || (spent b && eqb k 0)
 
     -- an event with k children, by which the machine goes on to d
-    module _ (k : ℕ) (d : Core V) (goes : next-move c ≡ on d) (grows : length (d .cells) + k ≡ length (c .cells) + 1) where
+    module _ (k : ℕ) (d : Core V) (goes : next-move c ≡ on d)
+        (grows : length (d .cells) + k ≡ length (c .cells) + 1) where
       tracks-on : length (d .cells) ≤ most-cells → no-room k ≡ false → Tracks d (recount 0 a) (recount k b) (n + 1)
       tracks-on low free =
           let (records, cells) = or-parts (spent a) (spent b && eqb k 0) free in
           let moved = moves-more R M (ends (stream .ending)) n (fresh (stream .tokens)) c (on d) (T .moved) goes in
-          let cells-left = left-on (K .cells) (length (c .cells)) (length (d .cells)) k b (T .cells-left) cells grows in
-          let in-sink = left-at-most (K .cells) (length (d .cells)) (recount k b) cells-left in
-          let high = in-room (K .cells) (length (d .cells)) low in-sink in
+          let old = length (c .cells) in
+          let now = length (d .cells) in
+          let records-left = left-on (K .records) n (n + 1) 0 a (T .records-left) (and-left (spent a) true records) in
+          let cells-left = left-on (K .cells) old now k b (T .cells-left) cells grows in
+          let high = in-room (K .cells) now low (left-at-most (K .cells) now (recount k b) cells-left) in
           record {
             moved = moved;
-            records-left = left-on (K .records) n (n + 1) 0 a (T .records-left) (and-left (spent a) true records) (omega arith);
+            records-left = records-left (omega arith);
             cells-left = cells-left;
-            high = within-more n (room (K .cells)) d (T .high) moved high;
+            high = inside-more n (room (K .cells)) d (T .high) moved high;
           }
 
       sink-reason : (m : ℕ) → no-room k ≡ true → Reason (Halted (Sink (Full m))) c n
@@ -159,7 +178,8 @@ module _ {V : Type 0} (R : Algebra V) (M : Automaton) (stream : Stream) (K : Sta
         next f = stepped ss (cond f (at c a b n More .stack) stack) to-come (at c a b n More)
 
         -- a cell too many, then a full sink, then the step
-        tried : Stepped c a b n (if-room (cond (no-room k) (Err (Full m)) (Ok tt)) (at c a b n More) (next (no-room k)))
+        tried : Stepped c a b n
+            (if-room (cond (no-room k) (Err (Full m)) (Ok tt)) (at c a b n More) (next (no-room k)))
         tried = go (leb (length ss) most-cells) refl (no-room k) refl
           where
             go : (x : Bool) → leb (length ss) most-cells ≡ x → (f : Bool) → no-room k ≡ f → Stepped c a b n
