@@ -69,8 +69,8 @@ module _ (M : Automaton) (s : ℕ) (e : Ending) (w : List Token) where
   pub found-reject : found M s (stream-of w e) ≡ Ok Reject → w ≡ [] → e ≡ end
   found-reject h none = go (M .default s) e w h none
     where
-      go : (d : Option ℕ) (e : Ending) (w : List Token) → unless-default d (peeked (M .action s) (next w e)) ≡ Ok Reject →
-          w ≡ [] → e ≡ end
+      go : (d : Option ℕ) (e : Ending) (w : List Token) →
+          unless-default d (peeked (M .action s) (next w e)) ≡ Ok Reject → w ≡ [] → e ≡ end
       go (Some p) e w h none = absurd (clash (cc))
       go None end w h none = refl
       go None (fault g) [] h none = absurd (clash (cc))

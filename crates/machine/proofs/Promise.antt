@@ -105,8 +105,8 @@ module _ {V : Type 0} (R : Algebra V) (run : Run V) where
     -- what is accepted
 
     module _ (states : ℕ) (law : Lawful states (run .table)) (kinded : Kinded (run .stream .tokens)) where
-      tree-accepted : r .outcome ≡ Accepted → theory.TreeAccepted R (run .table) ending (run .stream .tokens) (r .steps)
-          (room (run .stack .cells)) (T .core)
+      tree-accepted : r .outcome ≡ Accepted →
+          theory.TreeAccepted R (run .table) ending (run .stream .tokens) (r .steps) (room (run .stack .cells)) (T .core)
       tree-accepted is =
           accepts-only-trees V states (run .table) law R ending (run .stream .tokens) (r .steps)
           (room (run .stack .cells)) (T .core) kinded (T .tracks .high) (T .tracks .moved) (since Accepted is)
@@ -217,15 +217,15 @@ module _ {V : Type 0} (R : Algebra V) (run : Run V) where
           let P = replayed R M ending n (fresh (run .stream .tokens)) c (T .tracks .moved) in
           let moved = subst (λ w. moves R M ending n (fresh w) ≡ on c) (P .rest-is) (T .tracks .moved) in
           let H =
-                rejects-the-hopeless V M R (reads-all M v R) ending n (P .taken) (c .rest) c moved refl rejected in
+          rejects-the-hopeless V M R (reads-all M v R) ending n (P .taken) (c .rest) c moved refl rejected in
           record {
             taken = P .taken;
             text-is = P .rest-is ∙ ap (λ w. P .taken ++ w) (sym to-come);
             place-is = place ∙ ap place-of-next (sym to-come);
             token-refused = λ k ks next w made. H .token-refused k ks (sym to-come ∙ next) k w refl made;
             end-refused = λ none.
-              let last = at-end (sym to-come ∙ none) in
-              (last, λ made. H .end-refused (ap ends last) (sym to-come ∙ none) made);
+                let last = at-end (sym to-come ∙ none) in
+                (last, λ made. H .end-refused (ap ends last) (sym to-come ∙ none) made);
           }
 
 pub promise : (V : Type 0) → Promise V

@@ -121,7 +121,8 @@ module _ {V : Type 0} (R : Algebra V) (run : Run V) where
     outcome = More;
   }
 
-  inside-more : (n L : ℕ) (d : Core V) → Inside n L → moves-made (n + 1) ≡ on d → length (d .cells) ≤ L → Inside (n + 1) L
+  inside-more : (n L : ℕ) (d : Core V) → Inside n L → moves-made (n + 1) ≡ on d → length (d .cells) ≤ L →
+      Inside (n + 1) L
   inside-more n L d W h le m c lm hm = go (cases-lt m (n + 1))
     where
       go : (suc m ≤ n + 1) ⊎ (n + 1 ≤ m) → length (c .cells) ≤ L

@@ -1,4 +1,4 @@
--- Lists with the oldest first, as a reading and its sink have them, and with the newest first, as the machine has them.
+-- Lists with the oldest first, as a reading and its sink have them, turned into the newest first of the machine.
 use mathlib.Core.Path.{_≡_, refl, sym, ap, _∙_}
 use mathlib.Core.List.{List, [], _∷_, _++_, reverse, reverse-cons}
 use Prim.Native.Nat.{ℕ, _-_, _≤_}

@@ -19,7 +19,7 @@ use Rattle.outcome.specs.Numbers.{ended}
 use Rattle.machine.specs.Reading.{State, with-outcome, most-steps, spend}
 
 module _ {V : Type 0} where
-  -- an ended reading takes neither a turn nor a stop, and one that has not ended no mark; nor is a turn taken that could
+  -- an ended reading takes neither a turn nor a stop, and one that has not ended takes no mark, nor a turn that could
   -- bring the steps above the most
   abbrev pub declined : Call → State V → Option Declined
   declined (Turn n) r =

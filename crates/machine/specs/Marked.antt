@@ -100,7 +100,13 @@ on-off-events = N 0 0 ∷ L 1 0 ∷ N 1 2 ∷ L 1 3 ∷ N 1 2 ∷ []
 abbrev pub rows : List Row
 rows =
     -- the empty plan
-    record { stream = plan []; stack = roomy; calls = Turn 9 ∷ []; says = tells Accepted 1 ∷ []; list = (N 0 0 ∷ []) ∷ [] }
+    record {
+      stream = plan [];
+      stack = roomy;
+      calls = Turn 9 ∷ [];
+      says = tells Accepted 1 ∷ [];
+      list = (N 0 0 ∷ []) ∷ [];
+    }
     -- `on off` in one turn
     ∷ record {
       stream = on-off;

@@ -1,4 +1,4 @@
--- The reading: the machine of a table within bounds, from a source that may end in a fault into a sink that may refuse.
+-- The reading: a table's machine within bounds, from a source that may end in a fault, into a sink that may refuse.
 use mathlib.Core.Bool.{Bool, true, false, cond}
 use mathlib.Core.List.{List, [], _∷_, _++_}
 use Prim.Native.Nat.{ℕ, zero, suc, _+_, _-_}

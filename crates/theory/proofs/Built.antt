@@ -136,8 +136,8 @@ reaches-under L b i (t ∷ ts) h A =
 
 -- a move builds on
 
-module _ (states : ℕ) (M : Automaton) (law : Lawful states M) (w : List Token) (L n : ℕ) (c d : Core Tree) (B : Built M w n L c)
-    (fits : length (d .cells) ≤ L) where
+module _ (states : ℕ) (M : Automaton) (law : Lawful states M) (w : List Token) (L n : ℕ) (c d : Core Tree)
+    (B : Built M w n L c) (fits : length (d .cells) ≤ L) where
   shift-builds : Shifted tree-algebra M c d → Built M w (suc n) L d
   shift-builds s =
       let k = s .token in
@@ -161,7 +161,8 @@ module _ (states : ℕ) (M : Automaton) (law : Lawful states M) (w : List Token)
       let vs = c .values in
       let kids = reverse (take k vs) in
       let S = stacked-drop M k (c .cells) vs (B .stacked) in
-      let top = stacked-onto M (take k (c .cells)) [] (take k vs) [] (stacked-take M k (c .cells) vs (B .stacked)) tt in
+      let taken = stacked-take M k (c .cells) vs (B .stacked) in
+      let top = stacked-onto M (take k (c .cells)) [] (take k vs) [] taken tt in
       let kids-of = carried-trees M (reverse (take k (c .cells))) kids (r .right) top (s .landed .carried) in
       let level = stacked-length M (drop k (c .cells)) (drop k vs) S in
       let room : suc (length (drop k (c .cells))) ≤ L =
@@ -187,10 +188,12 @@ module _ (states : ℕ) (M : Automaton) (law : Lawful states M) (w : List Token)
       go (inl s) = shift-builds s
       go (inr s) = reduce-builds s
 
-pub built : (states : ℕ) (M : Automaton) → Lawful states M → (ended : Bool) (w : List Token) (L n : ℕ) (c : Core Tree) →
-    Within tree-algebra M ended w n L → moves tree-algebra M ended n (fresh w) ≡ on c → Built M w n L c
+pub built : (states : ℕ) (M : Automaton) → Lawful states M → (ended : Bool) (w : List Token) (L n : ℕ)
+    (c : Core Tree) → Within tree-algebra M ended w n L → moves tree-algebra M ended n (fresh w) ≡ on c →
+    Built M w n L c
 built states M law ended w L zero c fits h =
-    subst (Built M w 0 L) (same-core (fresh w) c h) (record { stacked = tt; text-is = refl; steps-are = refl; under = tt })
+    let none : Built M w 0 L (fresh w) = record { stacked = tt; text-is = refl; steps-are = refl; under = tt } in
+    subst (Built M w 0 L) (same-core (fresh w) c h) none
 built states M law ended w L (suc n) c fits h =
     let (d, e, g) = last-move tree-algebra M ended n (fresh w) c h in
     let B = built states M law ended w L n d (λ m b le f. fits m b (omega arith) f) e in

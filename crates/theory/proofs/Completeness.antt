@@ -94,7 +94,8 @@ module _ {V : Type 0} (R : Algebra V) (M : Automaton) where
         decide M (current (reverseAux xs ss)) (next w) ≡ Reduce p → M .grammar p ≡ Some r →
         length xs ≡ length (r .right) → length ys ≡ length (r .right) →
         (t : ℕ) × (M .goto (current ss) (r .left) ≡ Some t)
-        × (move R M true (core (reverseAux xs ss) (reverseAux ys vs) w) ≡ on (core (t ∷ ss) (R .node-rule p ys ∷ vs) w))
+        × (move R M true (core (reverseAux xs ss) (reverseAux ys vs) w)
+        ≡ on (core (t ∷ ss) (R .node-rule p ys ∷ vs) w))
     node-move p r xs ss ys vs w (n, u, moved) act e ex ey = go (landing-of M r (reverseAux xs ss)) refl reduces
       where
         k : ℕ
@@ -121,7 +122,7 @@ module _ {V : Type 0} (R : Algebra V) (M : Automaton) where
       reads-length no-tree α o = rw o refl
       reads-length (tree-then t ts) α (X, β, is, o, all) = rw is (ap suc (reads-length ts β all))
 
-      -- t was read, before which an item of production p stood with dot d: there is one cell more, and the item goes on
+      -- t was read, before which an item of production p had dot d: there is one cell more, and the item goes on
       record TreeDone (p d : ℕ) (t : Tree) (ss : List ℕ) (vs : List V) (w : List Token) : Type 0 where
         last : ℕ
         leads : Leads R M L true (size t) (core ss vs (text t ++ w)) (core (last ∷ ss) (read R t ∷ vs) w)
@@ -204,7 +205,9 @@ module _ {V : Type 0} (R : Algebra V) (M : Automaton) where
             let F = forest-done ts p (d + 1) β (i + 1) base ss′ vs′ w g″ it′ b all (omega arith) (omega arith) in
             let ss″ = reverseAux (F .above) ss′ in
             let vs″ = reverseAux (reads R ts) vs′ in
-            let more = leads-add R M L true (size t) (sizes ts) c (core ss′ vs′ v) (core ss″ vs″ w) (T .leads) (F .leads) in
+            let c′ = core ss′ vs′ v in
+            let c″ = core ss″ vs″ w in
+            let more = leads-add R M L true (size t) (sizes ts) c c′ c″ (T .leads) (F .leads) in
             let dot : (d + 1) + length β ≡ d + length α = omega (arith, ap length is) in
             record {
               above = T .last ∷ F .above;
@@ -213,7 +216,8 @@ module _ {V : Type 0} (R : Algebra V) (M : Automaton) where
               leads = rw append-assoc more;
             }
 
-accepted : {V : Type 0} (m : Move V) (b : Bool) → m ≡ cond b accepts (slips 4) → ((k : ℕ) → m ≡ slips k → ⊥) → m ≡ accepts
+accepted : {V : Type 0} (m : Move V) (b : Bool) → m ≡ cond b accepts (slips 4) → ((k : ℕ) → m ≡ slips k → ⊥) →
+    m ≡ accepts
 accepted m true e firm = e
 accepted m false e firm = absurd (firm 4 e)
 

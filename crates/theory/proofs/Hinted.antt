@@ -32,7 +32,7 @@ Agree [] ys = Unit {0}
 Agree (x ∷ xs) [] = Unit {0}
 Agree (x ∷ xs) (y ∷ ys) = (x ≡ y) × Agree xs ys
 
--- each set, the nearest first, holds the state at its depth: of the cells, the newest first, and state 0 below them all
+-- each set, the nearest first, holds the state at its depth: the cells, the newest first, and state 0 below them
 abbrev pub Hold : List Set → List ℕ → Type 0
 Hold [] ss = Unit {0}
 Hold (P ∷ ps) [] = 0 ∈ P × (ps ≡ [])
@@ -47,7 +47,10 @@ symbols M (s ∷ ss) = incoming-list (M .incoming s) ++ symbols M ss
 abbrev pub Hinted : Automaton → Hints → List ℕ → Type 0
 Hinted M H [] = Unit {0}
 Hinted M H (s ∷ ss) =
-    Present (M .incoming s) × Agree (reverse (H .past-symbols s)) (symbols M ss) × Hold (H .past-sets s) ss × Hinted M H ss
+    Present (M .incoming s)
+    × Agree (reverse (H .past-symbols s)) (symbols M ss)
+    × Hold (H .past-sets s) ss
+    × Hinted M H ss
 
 -- lists of symbols
 

@@ -25,7 +25,8 @@ use Rattle.theory.proofs.Onward.{stops-there}
 use Rattle.theory.proofs.View.{same-core, accept-stays, view-rejects}
 
 -- the same sight behind the same tokens
-seen-behind : (x : List Token) (a b : Bool) (r s : List Token) → seen a r ≡ seen b s → seen a (x ++ r) ≡ seen b (x ++ s)
+seen-behind : (x : List Token) (a b : Bool) (r s : List Token) → seen a r ≡ seen b s →
+    seen a (x ++ r) ≡ seen b (x ++ s)
 seen-behind [] a b r s e = e
 seen-behind (k ∷ x) a b r s e = refl
 
@@ -85,7 +86,8 @@ module _ {V : Type 0} (R : Algebra V) (M : Automaton) where
         taken = x ++ y;
         rest-is = whole ∙ sym (append-assoc x y (d .rest));
         again = λ ended′ r h.
-            let sight = seen-behind x ended′ ended (y ++ r) (y ++ d .rest) (seen-behind y ended′ ended r (d .rest) h) in
+            let soon = seen-behind y ended′ ended r (d .rest) h in
+            let sight = seen-behind x ended′ ended (y ++ r) (y ++ d .rest) soon in
             let here = ap (found M s) (sight ∙ ap (seen ended) (sym whole)) in
             let first = ap (perform R M (with-rest c (x ++ (y ++ r)))) here ∙ same (y ++ r) in
             let regroup = ap (λ z. moves R M ended′ (suc n) (with-rest c z)) (append-assoc x y r) in

@@ -22,8 +22,8 @@ use Rattle.table.specs.Validity.{Valid}
 use Rattle.theory.specs.Practice.{empty-rule, longer-rule, rules, entries, actions, gotos, practice}
 use Rattle.theory.specs.Practice.{past, sets, at-end, anywhere, items, looks-in, practice-hints}
 use Rattle.theory.proofs.Clash.{clash, none-some}
-use Rattle.theory.proofs.PracticeCases.{each-rule, each-entry, each-default, each-goto, each-shift, each-accept, no-reduce}
-use Rattle.theory.proofs.PracticeCases.{each-edge, each-reduce, each-item, behind}
+use Rattle.theory.proofs.PracticeCases.{each-rule, each-entry, each-default, each-goto, each-shift, each-accept}
+use Rattle.theory.proofs.PracticeCases.{no-reduce, each-edge, each-reduce, each-item, behind}
 
 -- the three states
 
@@ -189,17 +189,16 @@ practice-safe = record {
 -- complete
 
 nullable-start : (n : ℕ) → (n ∈ practice-hints .nullable) ↔ SomeRight rules n (λ α. T (nullable-all practice-hints α))
-nullable-start n = (λ h. (0, empty-rule, refl, sym (known-zero n h), tt), λ (p, r, e, l, h). is-zero n (sym l ∙ left-zero p r e))
+nullable-start n =
+    (λ h. (0, empty-rule, refl, sym (known-zero n h), tt), λ (p, r, e, l, h). is-zero n (sym l ∙ left-zero p r e))
   where
     left-zero : (p : ℕ) (r : Rule) → rules p ≡ Some r → r .left ≡ 0
     left-zero = each-rule (λ p r. r .left ≡ 0) refl refl
 
 some-start : (n a : ℕ) → (a ∈ practice-hints .firsts n) ↔ SomeRight rules n (λ α. a ∈ first-of practice-hints α)
-some-start n a = (λ h. (1, longer-rule, refl, left n (first-parts n a h .0), left-of (eqb 1 a) (first-parts n a h .1)), back)
+some-start n a =
+    (λ h. let (x, y) = first-parts n a h in (1, longer-rule, refl, eqb→eq 0 n x, left-of (eqb 1 a) y), back)
   where
-    left : (n : ℕ) → T (eqb 0 n) → 0 ≡ n
-    left n h = eqb→eq 0 n h
-
     left-of : (x : Bool) → T x → T (x || (x || false))
     left-of true h = tt
     left-of false h = absurd h
@@ -291,7 +290,8 @@ Followed s p d looks = (n : ℕ) (β : List Symbol) → Behind rules p d (Nonter
 
 into-one : (p d : ℕ) (looks : Set) → looks-in items 1 p (d + 1) ≡ looks →
     (s n t : ℕ) → gotos s n ≡ Some t → looks ⊆ looks-in items t p (d + 1)
-into-one p d looks e = each-goto (λ s n t. looks ⊆ looks-in items t p (d + 1)) (λ x h. subst (λ (P : Set). x ∈ P) (sym e) h)
+into-one p d looks e =
+    each-goto (λ s n t. looks ⊆ looks-in items t p (d + 1)) (λ x h. subst (λ (P : Set). x ∈ P) (sym e) h)
 
 followed : (s p d : ℕ) → Occupied (looks-in items s p d) → Followed s p d (looks-in items s p d)
 followed = each-item Followed

@@ -20,8 +20,8 @@ use Rattle.table.specs.Lawful.{Lawful}
 use Rattle.table.specs.Hints.{Set, shadow}
 use Rattle.table.specs.Safety.{Reduces}
 use Rattle.table.specs.Validity.{SafeUnderHints}
-use Rattle.theory.specs.Machine.{Core, Move, on, accepts, rejects, slips, starves, current, seen, found, enters, carry-start}
-use Rattle.theory.specs.Machine.{shift-to, land, reduce-by, accept-with, perform, move}
+use Rattle.theory.specs.Machine.{Core, Move, on, accepts, rejects, slips, starves, current, seen, found, enters}
+use Rattle.theory.specs.Machine.{carry-start, shift-to, land, reduce-by, accept-with, perform, move}
 use Rattle.theory.specs.Theorems.{NeverSlips}
 use Rattle.theory.proofs.Clash.{clash, some-some, none-some}
 use Rattle.theory.proofs.Symbols.{enters-own}

@@ -96,7 +96,8 @@ accepts-only-trees V states M law R ended w n L c K fits h a =
     let H = reading-maps V R in
     let same = λ (m : ℕ). natural Tree V M tree-algebra R r H ended m (fresh w) in
     let (d, e, at) = unmap-on r (moves tree-algebra M ended n (fresh w)) c (sym (same n) ∙ h) in
-    let inside : Within tree-algebra M ended w n L = λ m b le g. fits m (core-map r b) le (same m ∙ ap (move-map r) g) in
+    let inside : Within tree-algebra M ended w n L =
+    λ m b le g. fits m (core-map r b) le (same m ∙ ap (move-map r) g) in
     let mapped = sym (move-natural M tree-algebra R r H ended d) ∙ ap (move R M ended) (sym at) ∙ a in
     let B = built states M law ended w L n d inside e in
     let D = derived states M law ended w n L d K B (unmap-accepts r (move tree-algebra M ended d) mapped) in

@@ -46,6 +46,8 @@ module _ (M : Automaton) where
   -- the start alone
   pub one-start : (ss : List ℕ) → carry-start M ss ≡ true → (s : ℕ) × (ss ≡ s ∷ []) × (M .incoming s ≡ Some start)
   one-start [] h = absurd (false≢true h)
-  one-start (s ∷ []) h = (s, refl, entered-by start (M .incoming s) (and-parts (enters start (M .incoming s)) true h .0))
+  one-start (s ∷ []) h =
+      let entered = and-parts (enters start (M .incoming s)) true h .0 in
+      (s, refl, entered-by start (M .incoming s) entered)
   one-start (s ∷ t ∷ ss) h =
       absurd (false≢true (and-parts (enters start (M .incoming s)) false h .1))

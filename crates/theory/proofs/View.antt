@@ -18,8 +18,8 @@ use Rattle.table.specs.declared.Action.the-variants.{Shift, Reduce, Accept, Rej
 use Rattle.table.specs.Automaton.{Automaton}
 use Rattle.table.specs.Safety.{Reduces}
 use Rattle.theory.specs.Machine.{Core, core, Move, on, accepts, rejects, slips, starves, current, seen, looked}
-use Rattle.theory.specs.Machine.{unless-default, found, carry, carry-start, landed, landing-of, shift-to, with-node, land}
-use Rattle.theory.specs.Machine.{reduce-by, accept-with, perform, move, and-then}
+use Rattle.theory.specs.Machine.{unless-default, found, carry, carry-start, landed, landing-of, shift-to}
+use Rattle.theory.specs.Machine.{with-node, land, reduce-by, accept-with, perform, move, and-then}
 use Rattle.theory.proofs.Clash.{clash, some-some, none-some}
 
 -- moves
@@ -134,7 +134,8 @@ module _ {V : Type 0} (R : Algebra V) (M : Automaton) where
         (a : ℕ) × (seen ended (c .rest) ≡ Some a) × (M .action (current (c .cells)) a ≡ x)
     found-here x other e = found-seen M (current (c .cells)) (seen ended (c .rest)) x other e
 
-    shifted : (d : Core V) (t : ℕ) → Finds (Shift t) → shift-to R t (c .cells) (c .values) (c .rest) ≡ on d → Shifted c d
+    shifted : (d : Core V) (t : ℕ) → Finds (Shift t) → shift-to R t (c .cells) (c .values) (c .rest) ≡ on d →
+        Shifted c d
     shifted d t e h = go (c .rest) refl (found-here (Shift t) (λ p f. clash (cc)) e) h
       where
         go : (w : List Token) → c .rest ≡ w →
@@ -219,8 +220,8 @@ module _ {V : Type 0} (R : Algebra V) (M : Automaton) where
     pub view-accepts : move R M ended c ≡ accepts → Accepted R M ended c
     view-accepts h = go (found M (current (c .cells)) (seen ended (c .rest))) refl h
       where
-        go : (o : Option Action) → found M (current (c .cells)) (seen ended (c .rest)) ≡ o → perform R M c o ≡ accepts →
-            Accepted R M ended c
+        go : (o : Option Action) → found M (current (c .cells)) (seen ended (c .rest)) ≡ o →
+            perform R M c o ≡ accepts → Accepted R M ended c
         go None e g = absurd (clash (cc))
         go (Some (Shift t)) e g = absurd (subst Works g (shift-works t (c .cells) (c .values) (c .rest)))
         go (Some (Reduce p)) e g = absurd (subst Works g (reduce-works p (M .grammar p) c))
@@ -234,8 +235,8 @@ module _ {V : Type 0} (R : Algebra V) (M : Automaton) where
         by true g = clash (cc)
         by false g = clash (cc)
 
-        go : (o : Option Action) → found M (current (c .cells)) (seen ended (c .rest)) ≡ o → perform R M c o ≡ rejects →
-            Finds R M ended c Reject
+        go : (o : Option Action) → found M (current (c .cells)) (seen ended (c .rest)) ≡ o →
+            perform R M c o ≡ rejects → Finds R M ended c Reject
         go None e g = absurd (clash (cc))
         go (Some (Shift t)) e g = absurd (subst Works g (shift-works t (c .cells) (c .values) (c .rest)))
         go (Some (Reduce p)) e g = absurd (subst Works g (reduce-works p (M .grammar p) c))

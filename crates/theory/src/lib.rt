@@ -1,4 +1,4 @@
-//! The theory of LR(1) tables: what holds of the machine without bounds, for every table. Each function carries a theorem.
+//! What holds of every LR(1) table and its machine without bounds. Each function carries a theorem.
 ghost use Rattle.table.specs.Lawful.{narrow};
 ghost use Rattle.table.specs.Validity.{Valid};
 ghost use Rattle.theory.specs.Practice.{practice};
