@@ -105,8 +105,12 @@ module _ {V : Type 0} (R : Algebra V) (run : Run V) where
     -- what is accepted
 
     module _ (states : ℕ) (law : Lawful states (run .table)) (kinded : Kinded (run .stream .tokens)) where
-      tree-accepted : r .outcome ≡ Accepted →
-          theory.TreeAccepted R (run .table) ending (run .stream .tokens) (r .steps) (room (run .stack .cells)) (T .core)
+      abbrev Read : Type 0
+      Read =
+          let L = room (run .stack .cells) in
+          theory.TreeAccepted R (run .table) ending (run .stream .tokens) (r .steps) L (T .core)
+
+      tree-accepted : r .outcome ≡ Accepted → Read
       tree-accepted is =
           accepts-only-trees V states (run .table) law R ending (run .stream .tokens) (r .steps)
           (room (run .stack .cells)) (T .core) kinded (T .tracks .high) (T .tracks .moved) (since Accepted is)
@@ -129,17 +133,15 @@ module _ {V : Type 0} (R : Algebra V) (run : Run V) where
           let t = W .tree in
           let count = W .steps-are in
           let granted-it = T .in-grant in
-          let records = left-at-most (run .stack .records) (r .steps) (T .records) (T .tracks .records-left) in (
-            t,
-            W .of-text,
-            record {
-              has-ended = ends-true (run .stream .ending) (W .has-ended);
-              in-grant = omega arith;
-              in-records = at-most-below (size t) (r .steps) (run .stack .records) (omega arith) records;
-              in-cells = room-cells (run .stack .cells) (reach t) (W .cells-reach);
-              in-sink = room-sink (run .stack .cells) (reach t) (W .cells-reach);
-            },
-          )
+          let records = left-at-most (run .stack .records) (r .steps) (T .records) (T .tracks .records-left) in
+          let fits : Fits run t = record {
+            has-ended = ends-true (run .stream .ending) (W .has-ended);
+            in-grant = omega arith;
+            in-records = at-most-below (size t) (r .steps) (run .stack .records) (omega arith) records;
+            in-cells = room-cells (run .stack .cells) (reach t) (W .cells-reach);
+            in-sink = room-sink (run .stack .cells) (reach t) (W .cells-reach);
+          } in
+          (t, W .of-text, fits)
 
     -- what a valid table adds
 
@@ -216,8 +218,8 @@ module _ {V : Type 0} (R : Algebra V) (run : Run V) where
           let c = T .core in
           let P = replayed R M ending n (fresh (run .stream .tokens)) c (T .tracks .moved) in
           let moved = subst (λ w. moves R M ending n (fresh w) ≡ on c) (P .rest-is) (T .tracks .moved) in
-          let H =
-          rejects-the-hopeless V M R (reads-all M v R) ending n (P .taken) (c .rest) c moved refl rejected in
+          let all = reads-all M v R in
+          let H = rejects-the-hopeless V M R all ending n (P .taken) (c .rest) c moved refl rejected in
           record {
             taken = P .taken;
             text-is = P .rest-is ∙ ap (λ w. P .taken ++ w) (sym to-come);

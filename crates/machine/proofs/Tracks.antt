@@ -1,12 +1,12 @@
 -- A reading follows the machine without bounds, step by step, and where it ends by itself it has a reason.
-use mathlib.Core.Path.{_≡_, refl, sym, ap, ap₂, subst, _∙_}
+use mathlib.Core.Path.{_≡_, refl, sym, ap, subst, _∙_}
 use mathlib.Core.Bool.{Bool, true, false, cond, _&&_, _||_}
 use mathlib.Core.List.{List, [], _∷_, _++_, reverse}
 use mathlib.Core.Logic.{_⊎_, inl, inr}
 use Prim.Native.Nat.{ℕ, suc, _+_, _≤_, _<_}
 use native.Mathlib.Omega.{arith}
 use lib.Dec.{eqb, leb, ltb}
-use lib.ListN.{length, take, drop}
+use lib.ListN.{length, take}
 use Rattle.std.proofs.shelf.Lists.{length-append, length-reverse, length-drop}
 use Rattle.std.proofs.shelf.Tests.{eqb-true, leb-true, leb-false, le-ltb, cases-lt}
 use Rattle.std.proofs.shelf.Tests.{and-parts, and-left, or-cases, or-parts}
@@ -23,10 +23,12 @@ use Rattle.table.specs.Automaton.{Automaton}
 use Rattle.theory.specs.Machine.{Core, core, fresh, current, Move, on, accepts, rejects, slips, carry-start, with-node}
 use Rattle.theory.specs.Machine.{landing-of, shift-to, land, reduce-by, accept-with, perform, move, moves}
 use Rattle.theory.specs.Theorems.{Within}
+use Rattle.theory.proofs.Clash.{clash}
 use Rattle.theory.proofs.View.{same-core, Works, shift-works, reduce-works, has-landed}
 use Rattle.theory.proofs.Moves.{moves-more, moves-level}
 use Rattle.source.specs.declared.SourceFault.{SourceFault}
 use Rattle.source.specs.Streams.{end, fault, Stream, rest, dropped}
+use Rattle.sink.specs.declared.SinkFault.{SinkFault}
 use Rattle.sink.specs.declared.SinkFault.the-variants.{Full, TooFewTrees}
 use Rattle.sink.specs.Stacks.{Count, Stack, spent, recount, front, back, sent}
 use Rattle.outcome.specs.declared.Halt.the-variants.{Source, Sink, Cells, Slip}
@@ -38,7 +40,7 @@ use Rattle.machine.specs.Runs.{Run, AtMost}
 use Rattle.machine.proofs.Alike.{ends, without-fault, stream-of, found-alike, found-fault, found-reject}
 use Rattle.machine.proofs.Alike.{landing-alike, start-alike}
 use Rattle.machine.proofs.Counts.{Left, left-at-most, spent-at-most, left-on, room, in-room}
-use Rattle.machine.proofs.Turned.{pushed, front-turned, back-turned, last-turned}
+use Rattle.machine.proofs.Turned.{pushed, replaced, back-turned, last-turned}
 
 module _ {V : Type 0} (R : Algebra V) (run : Run V) where
   -- what stood at new
@@ -133,6 +135,9 @@ module _ {V : Type 0} (R : Algebra V) (run : Run V) where
           subst (λ (x : Core V). length (x .cells) ≤ L) (same-core d c there) le
 
   module _ (c : Core V) (a b : Count) (n : ℕ) (T : Tracks c a b n) where
+    abbrev r : State V
+    r = at c a b n More
+
     level : length (c .values) ≡ length (c .cells)
     level = moves-level R M (ends (stream .ending)) n (stream .tokens) c (T .moved)
 
@@ -173,92 +178,105 @@ module _ {V : Type 0} (R : Algebra V) (run : Run V) where
               inr (subst (λ (x : ℕ). AtMost x (K .cells) → ⊥) one-more full-cells)
 
       module _ (m : ℕ) (ss : List ℕ) (stack : Stack V) (to-come : Stream)
-          (long : length ss ≡ length (d .cells))
-          (there : stepped ss stack to-come (at c a b n More) ≡ at d (recount 0 a) (recount k b) (n + 1) More) where
+          (there : stepped ss stack to-come r ≡ at d (recount 0 a) (recount k b) (n + 1) More) where
+        long : length ss ≡ length (d .cells)
+        long = ap (λ (x : State V). length (x .cells)) there ∙ length-reverse (d .cells)
+
         abbrev next : Bool → State V
-        next f = stepped ss (cond f (at c a b n More .stack) stack) to-come (at c a b n More)
+        next f = stepped ss (cond f (r .stack) stack) to-come r
 
         -- a cell too many, then a full sink, then the step
-        tried : Stepped c a b n
-            (if-room (cond (no-room k) (Err (Full m)) (Ok tt)) (at c a b n More) (next (no-room k)))
+        tried : Stepped c a b n (if-room (cond (no-room k) (Err (Full m)) (Ok tt)) r (next (no-room k)))
         tried = go (leb (length ss) most-cells) refl (no-room k) refl
           where
             go : (x : Bool) → leb (length ss) most-cells ≡ x → (f : Bool) → no-room k ≡ f → Stepped c a b n
-                (cond x (sent-to (cond f (Err (Full m)) (Ok tt)) (at c a b n More) (next f))
-                (halt (at c a b n More) (Cells n)))
+                (cond x (sent-to (cond f (Err (Full m)) (Ok tt)) r (next f)) (halt r (Cells n)))
             go true low true f = inr (Halted (Sink (Full m)), refl, sink-reason m f)
             go true low false f =
                 let le = leb-true (length ss) most-cells low in
+                let same = long in
                 inl (d, recount 0 a, recount k b, there, tracks-on (omega arith) f)
             go false high f h =
                 let lt = leb-false (length ss) most-cells high in
+                let same = long in
                 inr (Halted (Cells n), refl, (d, goes, omega arith))
 
+        -- before a full sink, too few trees for the children
+        abbrev refusal : Bool → Result (Unit {0}) SinkFault
+        refusal few = cond few (Err (TooFewTrees m)) (cond (no-room k) (Err (Full m)) (Ok tt))
+
+        tried-with : (few : Bool) → few ≡ false → Stepped c a b n (if-room (refusal few) r (next (few || no-room k)))
+        tried-with true e = absurd (clash (cc))
+        tried-with false e = tried
+
+    -- where the leaf or the node leads
+
+    leaf-there : (t : ℕ) (k : Token) (w : List Token) → c .rest ≡ k ∷ w →
+        stepped (r .cells ++ (t ∷ [])) (sent 0 (R .leaf-rule k) (r .stack)) (dropped (r .stream)) r
+        ≡ at (core (t ∷ c .cells) (R .leaf-rule k ∷ c .values) w) (recount 0 a) (recount 0 b) (n + 1) More
+    leaf-there t k w is =
+        let v = R .leaf-rule k in
+        let d = core (t ∷ c .cells) (v ∷ c .values) w in
+        let vs = front 0 (r .stack .list) ++ (v ∷ []) in
+        let listed = replaced (K .list) (c .values) 0 v (omega arith) in
+        same-parts d (recount 0 a) (recount 0 b) (n + 1) (r .cells ++ (t ∷ [])) vs (rest (c .rest))
+        (pushed [] (c .cells) t) listed (ap rest is)
+
+    abbrev noded : ℕ → ℕ → Stack V
+    noded p k = sent k (R .node-rule p (back k (r .stack .list))) (r .stack)
+
+    node-there : (p k t : ℕ) → k ≤ length (c .cells) →
+        stepped (front k (r .cells) ++ (t ∷ [])) (noded p k) (r .stream) r
+        ≡ at (with-node R p k t c) (recount 0 a) (recount k b) (n + 1) More
+    node-there p k t le =
+        let enough : k ≤ length (c .values) = omega (arith, level) in
+        let kids = back-turned (K .list) (c .values) k enough in
+        let v = R .node-rule p (reverse (take k (c .values))) in
+        let node-is = ap (λ xs. front k (r .stack .list) ++ (R .node-rule p xs ∷ [])) kids in
+        same-parts (with-node R p k t c) (recount 0 a) (recount k b) (n + 1) (front k (r .cells) ++ (t ∷ []))
+        (front k (r .stack .list) ++ (R .node-rule p (back k (r .stack .list)) ∷ [])) (c .rest)
+        (replaced [] (c .cells) k t le) (node-is ∙ replaced (K .list) (c .values) k v enough) refl
+
+    enough-trees : (k : ℕ) → k ≤ length (c .cells) → ltb (length (r .stack .list)) k ≡ false
+    enough-trees k le =
+        let sum = length-append (K .list) (reverse (c .values)) in
+        let turned = length-reverse (c .values) in
+        le-ltb (length (r .stack .list)) k (omega (arith, level))
+
     shift-steps : (t : ℕ) (w : List Token) → c .rest ≡ w → next-move c ≡ shift-to R t (c .cells) (c .values) w →
-        Stepped c a b n (shifting R t (at c a b n More) w)
+        Stepped c a b n (shifting R t r w)
     shift-steps t [] is h = inr (Halted (Slip 4), refl, h)
     shift-steps t (k ∷ w) is h =
         let v = R .leaf-rule k in
         let d = core (t ∷ c .cells) (v ∷ c .values) w in
-        let old = K .list ++ reverse (c .values) in
-        let stack = sent 0 v (at c a b n More .stack) in
-        let to-come = dropped (stream-of (c .rest) (stream .ending)) in
-        let ss = reverse (c .cells) ++ (t ∷ []) in
-        let cells = pushed [] (c .cells) t in
-        let kept = front-turned (K .list) (c .values) 0 (omega arith) in
-        let listed = ap (λ xs. xs ++ (v ∷ [])) kept ∙ pushed (K .list) (c .values) v in
-        let there =
-        same-parts d (recount 0 a) (recount 0 b) (n + 1) ss (front 0 old ++ (v ∷ [])) (rest (c .rest)) cells listed
-        (ap rest is) in
-        tried 0 d h (omega arith) (length old) ss stack to-come (ap length cells ∙ length-reverse (t ∷ c .cells)) there
+        tried 0 d h (omega arith) (length (r .stack .list)) (r .cells ++ (t ∷ [])) (sent 0 v (r .stack))
+        (dropped (r .stream)) (leaf-there t k w is)
 
     node-steps : (p k t : ℕ) → k ≤ length (c .cells) → next-move c ≡ on (with-node R p k t c) →
-        Stepped c a b n (going R p k (at c a b n More) (Ok t))
+        Stepped c a b n (going R p k r (Ok t))
     node-steps p k t le h =
-        let d = with-node R p k t c in
-        let enough : k ≤ length (c .values) = omega (arith, level) in
-        let v = R .node-rule p (reverse (take k (c .values))) in
-        let old = K .list ++ reverse (c .values) in
-        let v′ = R .node-rule p (back k old) in
-        let stack = sent k v′ (at c a b n More .stack) in
-        let ss = front k (reverse (c .cells)) ++ (t ∷ []) in
-        let under = front-turned [] (c .cells) k le in
-        let cells = ap (λ xs. xs ++ (t ∷ [])) under ∙ pushed [] (drop k (c .cells)) t in
-        let node-is : v′ ≡ v = ap (R .node-rule p) (back-turned (K .list) (c .values) k enough) in
-        let kept = front-turned (K .list) (c .values) k enough in
-        let listed = ap₂ (λ xs (x : V). xs ++ (x ∷ [])) kept node-is ∙ pushed (K .list) (drop k (c .values)) v in
-        let there =
-        same-parts d (recount 0 a) (recount k b) (n + 1) ss (front k old ++ (v′ ∷ [])) (c .rest) cells listed refl in
         let fewer = length-drop k (c .cells) in
-        let long = ap length cells ∙ length-reverse (t ∷ drop k (c .cells)) in
-        let step-tried =
-        tried k d h (omega arith) (length old) ss stack (stream-of (c .rest) (stream .ending)) long there in
-        let sum = length-append (K .list) (reverse (c .values)) in
-        let turned = length-reverse (c .values) in
-        let trees : ltb (length old) k ≡ false = le-ltb (length old) k (omega arith) in
-        subst (λ (x : Bool). Stepped c a b n (if-room
-        (cond x (Err (TooFewTrees (length old))) (cond (no-room k) (Err (Full (length old))) (Ok tt)))
-        (at c a b n More)
-        (stepped ss (cond (x || no-room k) (at c a b n More .stack) stack)
-        (stream-of (c .rest) (stream .ending)) (at c a b n More))))
-        (sym trees) step-tried
+        let old = r .stack .list in
+        tried-with k (with-node R p k t c) h (omega arith) (length old) (front k (r .cells) ++ (t ∷ []))
+        (noded p k) (r .stream) (node-there p k t le) (ltb (length old) k)
+        (enough-trees k le)
 
     -- a shift, a reduce or an accept that the machine finds too
 
-    land-steps : (p : ℕ) (r : Rule) (l : Result ℕ ℕ) → landing-of M r (c .cells) ≡ l →
-        next-move c ≡ land R p (length (r .right)) c l →
-        Stepped c a b n (going R p (length (r .right)) (at c a b n More) l)
-    land-steps p r (Err k) is h = inr (Halted (Slip k), refl, h)
-    land-steps p r (Ok t) is h =
-        let le = leb-true (length (r .right)) (length (c .cells)) (has-landed M r (c .cells) t is .enough) in
-        node-steps p (length (r .right)) t le h
+    land-steps : (p : ℕ) (rule : Rule) (l : Result ℕ ℕ) → landing-of M rule (c .cells) ≡ l →
+        next-move c ≡ land R p (length (rule .right)) c l → Stepped c a b n (going R p (length (rule .right)) r l)
+    land-steps p rule (Err k) is h = inr (Halted (Slip k), refl, h)
+    land-steps p rule (Ok t) is h =
+        let k = length (rule .right) in
+        let le = leb-true k (length (c .cells)) (has-landed M rule (c .cells) t is .enough) in
+        node-steps p k t le h
 
-    reduce-steps : (p : ℕ) (o : Option Rule) → next-move c ≡ reduce-by R M p o c →
-        Stepped c a b n (reducing R p o (at c a b n More))
+    reduce-steps : (p : ℕ) (o : Option Rule) → next-move c ≡ reduce-by R M p o c → Stepped c a b n (reducing R p o r)
     reduce-steps p None h = inr (Halted (Slip 1), refl, h)
-    reduce-steps p (Some r) h =
-        subst (λ l. Stepped c a b n (going R p (length (r .right)) (at c a b n More) l))
-        (sym (landing-alike M r (c .cells))) (land-steps p r (landing-of M r (c .cells)) refl h)
+    reduce-steps p (Some rule) h =
+        let same = sym (landing-alike M rule (c .cells)) in
+        subst (λ l. Stepped c a b n (going R p (length (rule .right)) r l)) same
+        (land-steps p rule (landing-of M rule (c .cells)) refl h)
 
     accept-settles : next-move c ≡ accept-with M (c .cells) →
         Reason (cond (carry-start M (reverse (c .cells))) Accepted (Halted (Slip 4))) c n
@@ -275,44 +293,38 @@ module _ {V : Type 0} (R : Algebra V) (run : Run V) where
     abbrev finds : Result Action SourceFault
     finds = found M (current (c .cells)) (stream-of (c .rest) (stream .ending))
 
-    found-is : found-in (at c a b n More) ≡ finds
+    found-is : found-in r ≡ finds
     found-is = ap (λ s. found M s (stream-of (c .rest) (stream .ending))) (last-turned (c .cells))
 
     move-is : next-move c ≡ perform R M c (without-fault finds)
     move-is = ap (perform R M c) (found-alike M (current (c .cells)) (stream .ending) (c .rest))
 
-    fault-settles : (f : SourceFault) → finds ≡ Err f →
-        Reason (Halted (Source f)) c n
+    fault-settles : (f : SourceFault) → finds ≡ Err f → Reason (Halted (Source f)) c n
     fault-settles f e = found-fault M (current (c .cells)) (stream .ending) (c .rest) f e
 
-    reject-settles : finds ≡ Ok Reject →
-        next-move c ≡ rejects → Reason (Rejected (place-of-next (c .rest))) c n
+    reject-settles : finds ≡ Ok Reject → next-move c ≡ rejects → Reason (Rejected (place-of-next (c .rest))) c n
     reject-settles e h = (h, refl, found-reject M (current (c .cells)) (stream .ending) (c .rest) e)
 
-    pub step-tracks : Stepped c a b n (step R (at c a b n More))
-    step-tracks =
-        subst (λ x. Stepped c a b n (step-by R (at c a b n More) x)) (sym found-is)
-        (go finds refl move-is)
+    pub step-tracks : Stepped c a b n (step R r)
+    step-tracks = subst (λ x. Stepped c a b n (step-by R r x)) (sym found-is) (go finds refl move-is)
       where
-        go : (x : Result Action SourceFault) → finds ≡ x →
-            next-move c ≡ perform R M c (without-fault x) → Stepped c a b n (step-by R (at c a b n More) x)
+        go : (x : Result Action SourceFault) → finds ≡ x → next-move c ≡ perform R M c (without-fault x) →
+            Stepped c a b n (step-by R r x)
         go (Err f) e h = inr (Halted (Source f), refl, fault-settles f e)
         go (Ok (Shift t)) e h = shift-steps t (c .rest) refl h
         go (Ok (Reduce p)) e h = reduce-steps p (M .grammar p) h
-        go (Ok Accept) e h = inr (settled (at c a b n More) (Ok Accept), refl, accept-settles h)
+        go (Ok Accept) e h = inr (settled r (Ok Accept), refl, accept-settles h)
         go (Ok Reject) e h = inr (Rejected (place-of-next (c .rest)), refl, reject-settles e h)
 
     -- with no step left: an accept is not overlooked
     abbrev pub Looked : Outcome → Type 0
     Looked o = ((o ≡ More) × (next-move c ≡ accepts → ⊥)) ⊎ Reason o c n
 
-    pub look-tracks : Looked (settled (at c a b n More) (found-in (at c a b n More)))
-    look-tracks =
-        subst (λ x. Looked (settled (at c a b n More) x)) (sym found-is)
-        (go finds refl move-is)
+    pub look-tracks : Looked (settled r (found-in r))
+    look-tracks = subst (λ x. Looked (settled r x)) (sym found-is) (go finds refl move-is)
       where
-        go : (x : Result Action SourceFault) → finds ≡ x →
-            next-move c ≡ perform R M c (without-fault x) → Looked (settled (at c a b n More) x)
+        go : (x : Result Action SourceFault) → finds ≡ x → next-move c ≡ perform R M c (without-fault x) →
+            Looked (settled r x)
         go (Err f) e h = inr (fault-settles f e)
         go (Ok (Shift t)) e h =
             inl (refl, λ g. subst Works (sym h ∙ g) (shift-works R M t (c .cells) (c .values) (c .rest)))

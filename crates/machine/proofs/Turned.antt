@@ -39,6 +39,11 @@ module _ {A : Type 0} (old xs : List A) (k : ℕ) (le : k ≤ length xs) where
       let n = length (old ++ reverse xs) - k in
       ap (drop n) split ∙ drop-at (old ++ reverse (drop k xs)) (reverse (take k xs)) n count
 
+-- y in the place of the newest k
+pub replaced : {A : Type 0} (old xs : List A) (k : ℕ) (y : A) → k ≤ length xs →
+    front k (old ++ reverse xs) ++ (y ∷ []) ≡ old ++ reverse (y ∷ drop k xs)
+replaced old xs k y le = ap (λ zs. zs ++ (y ∷ [])) (front-turned old xs k le) ∙ pushed old (drop k xs) y
+
 pub last-turned : (ss : List ℕ) → last-of (reverse ss) ≡ current ss
 last-turned [] = refl
 last-turned (s ∷ ss) =

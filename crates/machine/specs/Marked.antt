@@ -61,14 +61,15 @@ pub record Row : Type 0 where
 abbrev pub start-of : Row → State (List Event)
 start-of x = new practice (x .stream) (x .stack)
 
-abbrev pub RowHolds : Row → Type 0
-RowHolds x =
-    (answers (x .calls) (start-of x) ≡ x .says)
-    × (after-calls events (x .calls) (start-of x) .stack .list ≡ x .list)
+-- each row by the machine, and by hand
+abbrev pub by-machine : List Row → List (List (Result Report Declined) × List (List Event))
+by-machine [] = []
+by-machine (x ∷ xs) =
+    (answers (x .calls) (start-of x), after-calls events (x .calls) (start-of x) .stack .list) ∷ by-machine xs
 
-abbrev pub RowsHold : List Row → Type 0
-RowsHold [] = Unit {0}
-RowsHold (x ∷ xs) = RowHolds x × RowsHold xs
+abbrev pub by-hand : List Row → List (List (Result Report Declined) × List (List Event))
+by-hand [] = []
+by-hand (x ∷ xs) = (x .says, x .list) ∷ by-hand xs
 
 -- words, a number, and sinks
 
@@ -186,9 +187,13 @@ spot-state x = record {
   outcome = More;
 }
 
-abbrev pub SpotsHold : List Spot → Type 0
-SpotsHold [] = Unit {0}
-SpotsHold (x ∷ xs) = (answer events (x .call) (spot-state x) ≡ x .says) × SpotsHold xs
+abbrev pub spots-by-machine : List Spot → List (Result Report Declined)
+spots-by-machine [] = []
+spots-by-machine (x ∷ xs) = answer events (x .call) (spot-state x) ∷ spots-by-machine xs
+
+abbrev pub spots-by-hand : List Spot → List (Result Report Declined)
+spots-by-hand [] = []
+spots-by-hand (x ∷ xs) = x .says ∷ spots-by-hand xs
 
 abbrev pub spot : List ℕ → Stack (List Event) → List Token → ℕ → Call → Result Report Declined → Spot
 spot ss stack w n c a = record { cells = ss; stack = stack; tokens = w; steps = n; call = c; says = a }
@@ -229,8 +234,8 @@ on-off-tree =
     (tree-then (leaf word-off) no-tree))
 
 pub record Marked : Type 0 where
-  pub rows-hold : RowsHold rows
-  pub spots-hold : SpotsHold spots
+  pub rows-hold : by-machine rows ≡ by-hand rows
+  pub spots-hold : spots-by-machine spots ≡ spots-by-hand spots
   pub tree-text : text on-off-tree ≡ word-on ∷ word-off ∷ []
   pub tree-size : size on-off-tree ≡ 5
   pub tree-reach : reach on-off-tree ≡ 2
