@@ -165,8 +165,8 @@ module _ (states : ℕ) (M : Automaton) (law : Lawful states M) (w : List Token)
       let top = stacked-onto M (take k (c .cells)) [] (take k vs) [] taken tt in
       let kids-of = carried-trees M (reverse (take k (c .cells))) kids (r .right) top (s .landed .carried) in
       let level = stacked-length M (drop k (c .cells)) (drop k vs) S in
-      let room : suc (length (drop k (c .cells))) ≤ L =
-      subst (λ (e : Core Tree). length (e .cells) ≤ L) (s .now-is) fits in
+      let Fits = λ (e : Core Tree). length (e .cells) ≤ L in
+      let room : suc (length (drop k (c .cells))) ≤ L = subst Fits (s .now-is) fits in
       let base : length (drop k vs) + 1 ≤ L = omega arith in
       let e : length (drop k vs) ≡ length (drop k vs) + 0 = omega arith in
       let above = subst (λ (x : ℕ). Above L x kids) e (gather-under L k vs [] (B .under) tt) in

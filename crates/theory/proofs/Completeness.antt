@@ -155,8 +155,8 @@ module _ {V : Type 0} (R : Algebra V) (M : Automaton) where
           let c = core ss vs (texts ts ++ w) in
           let ss′ = reverseAux (F .above) ss in
           let c′ = core ss′ (reverseAux (reads R ts) vs) w in
-          let done : Behind (M .grammar) q (0 + k) [] =
-          (r .right, known-right M law q r e, drop-all (0 + k) (r .right) (omega arith)) in
+          let none = drop-all (0 + k) (r .right) (omega arith) in
+          let done : Behind (M .grammar) q (0 + k) [] = (r .right, known-right M law q r e, none) in
           let act = C .done-reduces (current ss′) q (0 + k) (next w) (F .item) (not-added M law q r e) done in
           let g′ = reachable-leads L (sizes ts) c c′ g (F .leads) in
           let full = reads-length ts (r .right) all in
@@ -228,9 +228,8 @@ reads-every-tree V states M completely R N w t (o, is) =
     let law = completely .lawful in
     let begins : Behind (M .grammar) added 0 (start ∷ []) = (start ∷ [], refl, refl) in
     let first = C .initial-item in
-    let T =
-    tree-done R M N law H C (reach t) t added 0 start [] [] [] [] (0, text t ++ [], refl) (0, first) begins o first
-    (omega arith) in
+    let drive = tree-done R M N law H C (reach t) t added 0 start [] [] [] [] in
+    let T = drive (0, text t ++ [], refl) (0, first) begins o first (omega arith) in
     let d = core (T .last ∷ []) (read R t ∷ []) [] in
     let leads = subst (λ z. Leads R M (reach t) true (size t) (fresh z) d) (append-nil (text t) ∙ is) (T .leads) in
     let moved = leads-moves R M (reach t) true (size t) (fresh w) d leads in

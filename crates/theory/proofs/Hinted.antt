@@ -123,8 +123,8 @@ module _ (M : Automaton) (H : Hints) where
   carried-down (X ∷ α) [] A le S = absurd (omega arith)
   carried-down (X ∷ α) (s ∷ ss) A le S =
       let (Y, e) = S .0 in
-      let both : (X ≡ Y) × Agree α (symbols M ss) =
-      subst (λ (o : Option Symbol). Agree (X ∷ α) (incoming-list o ++ symbols M ss)) e A in
+      let Top = λ (o : Option Symbol). Agree (X ∷ α) (incoming-list o ++ symbols M ss) in
+      let both : (X ≡ Y) × Agree α (symbols M ss) = subst Top e A in
       let entered = enters-own X (M .incoming s) (e ∙ ap {B = Option Symbol} Some (sym (both .0))) in
       and-from (enters X (M .incoming s)) (carry M (take (length α) ss) α) entered
       (carried-down α ss (both .1) (omega arith) (S .3))

@@ -93,14 +93,14 @@ module _ {states : ℕ} (M : Automaton) (safely : SafeUnderHints states M) where
         let reduces = found-reduce M (current (c .cells)) (seen ended (c .rest)) p e in
         let (r, k) = known states M (safely .lawful) (current (c .cells)) p reduces in
         let (t, l) = reduce-lands (c .cells) S p r reduces k in
-        let landed : Firm (reduce-by R M p (Some r) c) =
-        subst (λ (x : Result ℕ ℕ). Firm (land R p (length (r .right)) c x)) (sym (lands M r (c .cells) t l)) tt in
+        let Lands = λ (x : Result ℕ ℕ). Firm (land R p (length (r .right)) c x) in
+        let landed : Firm (reduce-by R M p (Some r) c) = subst Lands (sym (lands M r (c .cells) t l)) tt in
         subst (λ (o : Option Rule). Firm (reduce-by R M p o c)) (sym k) landed
 
     accept-firm : Finds Accept → Firm {V = V} (accept-with M (c .cells))
     accept-firm e =
-        let (a, sees, act) =
-        found-seen M (current (c .cells)) (seen ended (c .rest)) Accept (λ p f. clash (cc)) e in
+        let sight = seen ended (c .rest) in
+        let (a, sees, act) = found-seen M (current (c .cells)) sight Accept (λ p f. clash (cc)) e in
         let start-alone = accept-lands (c .cells) S a act in
         subst (λ (b : Bool). Firm {V = V} (cond b accepts (slips 4))) (sym start-alone) tt
 

@@ -11,12 +11,12 @@ use Rattle.syntax.specs.declared.Token.{Token}
 use Rattle.syntax.specs.declared.Symbol.{Symbol}
 use Rattle.syntax.specs.Grammar.{start, Kinded}
 use Rattle.syntax.specs.Trees.{Tree, Of, TreeOf, text, size, reach}
-use Rattle.syntax.specs.Values.{read}
+use Rattle.syntax.specs.Values.{Algebra, read}
 use Rattle.table.specs.Automaton.{Automaton}
 use Rattle.table.specs.Lawful.{Lawful}
 use Rattle.theory.specs.Machine.{Core, Move, on, accepts, rejects, slips, starves, fresh, current, seen, move, moves}
 use Rattle.theory.specs.Maps.{tree-algebra, core-map, move-map}
-use Rattle.theory.specs.Theorems.{Within, AcceptsOnlyTrees}
+use Rattle.theory.specs.Theorems.{Within, TreeAccepted, AcceptsOnlyTrees}
 use Rattle.theory.proofs.Clash.{clash, some-some, none-some}
 use Rattle.theory.proofs.Symbols.{one-start}
 use Rattle.theory.proofs.Natural.{natural, reading-maps, move-natural}
@@ -90,23 +90,35 @@ derived states M law ended w n L c K B h =
     }
 
 -- as the machine over trees is, so is that over any values
+module _ {V : Type 0} (M : Automaton) (R : Algebra V) (ended : Bool) (w : List Token) where
+  same : (m : ℕ) → moves R M ended m (fresh w) ≡ move-map (read R) (moves tree-algebra M ended m (fresh w))
+  same m = natural Tree V M tree-algebra R (read R) (reading-maps V R) ended m (fresh w)
+
+  inside : (n L : ℕ) → Within R M ended w n L → Within tree-algebra M ended w n L
+  inside n L fits m b le e = fits m (core-map (read R) b) le (same m ∙ ap (move-map (read R)) e)
+
+  accepts-too : (c : Core V) (d : Core Tree) → c ≡ core-map (read R) d → move R M ended c ≡ accepts →
+      move tree-algebra M ended d ≡ accepts
+  accepts-too c d at a =
+      let mapped = sym (move-natural M tree-algebra R (read R) (reading-maps V R) ended d) in
+      unmap-accepts (read R) (move tree-algebra M ended d) (mapped ∙ ap (move R M ended) (sym at) ∙ a)
+
+  tree-accepted : (n L : ℕ) (c : Core V) (d : Core Tree) → c ≡ core-map (read R) d → Derived M ended w n L d →
+      TreeAccepted R M ended w n L c
+  tree-accepted n L c d at D = record {
+    tree = D .tree;
+    of-text = D .of-text;
+    value-is = ap (λ (b : Core V). b .values) at ∙ ap (map (read R)) (D .only);
+    all-taken = ap (λ (b : Core V). b .rest) at ∙ D .all-taken;
+    has-ended = D .has-ended;
+    steps-are = D .steps-are;
+    cells-reach = D .cells-reach;
+  }
+
 pub accepts-only-trees : (V : Type 0) → AcceptsOnlyTrees V
 accepts-only-trees V states M law R ended w n L c K fits h a =
-    let r = read R in
-    let H = reading-maps V R in
-    let same = λ (m : ℕ). natural Tree V M tree-algebra R r H ended m (fresh w) in
-    let (d, e, at) = unmap-on r (moves tree-algebra M ended n (fresh w)) c (sym (same n) ∙ h) in
-    let inside : Within tree-algebra M ended w n L =
-    λ m b le g. fits m (core-map r b) le (same m ∙ ap (move-map r) g) in
-    let mapped = sym (move-natural M tree-algebra R r H ended d) ∙ ap (move R M ended) (sym at) ∙ a in
-    let B = built states M law ended w L n d inside e in
-    let D = derived states M law ended w n L d K B (unmap-accepts r (move tree-algebra M ended d) mapped) in
-    record {
-      tree = D .tree;
-      of-text = D .of-text;
-      value-is = ap (λ (b : Core V). b .values) at ∙ ap (map r) (D .only);
-      all-taken = ap (λ (b : Core V). b .rest) at ∙ D .all-taken;
-      has-ended = D .has-ended;
-      steps-are = D .steps-are;
-      cells-reach = D .cells-reach;
-    }
+    let trees = moves tree-algebra M ended n (fresh w) in
+    let (d, e, at) = unmap-on (read R) trees c (sym (same M R ended w n) ∙ h) in
+    let B = built states M law ended w L n d (inside M R ended w n L fits) e in
+    let D = derived states M law ended w n L d K B (accepts-too M R ended w c d at a) in
+    tree-accepted M R ended w n L c d at D
