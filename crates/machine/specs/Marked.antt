@@ -3,7 +3,7 @@ use mathlib.Core.Path.{_≡_}
 use mathlib.Core.List.{List, [], _∷_, _++_}
 use Prim.Native.Nat.{ℕ}
 use lib.ListN.{length, replicate}
-use Rattle.std.specs.declared.option.Option.the-variants.{Some}
+use Rattle.std.specs.declared.option.Option.the-variants.{Some, None}
 use Rattle.std.specs.declared.result.Result.{Result}
 use Rattle.std.specs.declared.result.Result.the-variants.{Ok, Err}
 use Rattle.syntax.specs.declared.Token.{Token}
@@ -12,7 +12,7 @@ use Rattle.syntax.specs.Values.{Algebra, read}
 use Rattle.theory.specs.Practice.{practice}
 use Rattle.source.specs.declared.SourceFault.the-variants.{UnknownByte}
 use Rattle.source.specs.Streams.{end, fault, Stream}
-use Rattle.sink.specs.declared.SinkFault.the-variants.{Full}
+use Rattle.sink.specs.declared.SinkFault.the-variants.{Full, TooFewTrees}
 use Rattle.sink.specs.Stacks.{Stack, endless, limited}
 use Rattle.outcome.specs.declared.Halt.the-variants.{Source, Sink, Cells, Slip}
 use Rattle.outcome.specs.declared.Outcome.{Outcome}
@@ -168,12 +168,13 @@ rows =
     }
     ∷ []
 
--- one call on a running reading that stands anywhere, also where no run leads
+-- one call on a reading that stands anywhere, also where no run leads
 pub record Spot : Type 0 where
   pub cells : List ℕ
   pub stack : Stack (List Event)
   pub tokens : List Token
   pub steps : ℕ
+  pub outcome : Outcome
   pub call : Call
   pub says : Result Report Declined
 
@@ -184,7 +185,7 @@ spot-state x = record {
   stack = x .stack;
   stream = plan (x .tokens);
   steps = x .steps;
-  outcome = More;
+  outcome = x .outcome;
 }
 
 abbrev pub spots-by-machine : List Spot → List (Result Report Declined)
@@ -195,24 +196,35 @@ abbrev pub spots-by-hand : List Spot → List (Result Report Declined)
 spots-by-hand [] = []
 spots-by-hand (x ∷ xs) = x .says ∷ spots-by-hand xs
 
+-- of a reading that has not ended
 abbrev pub spot : List ℕ → Stack (List Event) → List Token → ℕ → Call → Result Report Declined → Spot
-spot ss stack w n c a = record { cells = ss; stack = stack; tokens = w; steps = n; call = c; says = a }
+spot ss stack w n c a =
+    record { cells = ss; stack = stack; tokens = w; steps = n; outcome = More; call = c; says = a }
 
-abbrev pub no-records : Stack (List Event)
-no-records = record { list = []; records = limited 0; cells = endless }
+-- of one that has
+abbrev pub ended-spot : ℕ → Outcome → Call → Result Report Declined → Spot
+ended-spot n o c a =
+    record { cells = []; stack = roomy; tokens = []; steps = n; outcome = o; call = c; says = a }
 
--- a sink that has a value for each of n cells
+-- a sink that has a value for each of n cells, and one that takes no event more
 abbrev pub holding : ℕ → Stack (List Event)
 holding n = record { list = replicate n []; records = endless; cells = endless }
 
+abbrev pub spent-at : ℕ → Stack (List Event)
+spent-at n = record { list = replicate n []; records = limited 0; cells = endless }
+
 abbrev pub spots : List Spot
 spots =
-    -- the last step of all
+    -- the last step of all, and one more
     spot [] roomy [] 999999999999 (Turn 1) (tells Accepted 1000000000000)
     ∷ spot [] roomy [] 999999999999 (Turn 2) (Err (TooManySteps 999999999999))
+    -- an ended reading says that it has ended before it says that
+    ∷ ended-spot 999999999999 Accepted (Turn 2) (Err (Ended 999999999999))
     -- the last cell, and one more, which is told before the full sink
-    ∷ spot (replicate 127 1) no-records (word-on ∷ []) 7 (Turn 1) (tells (Halted (Sink (Full 0))) 7)
-    ∷ spot (replicate 128 1) no-records (word-on ∷ []) 7 (Turn 1) (tells (Halted (Cells 7)) 7)
+    ∷ spot (replicate 127 1) (spent-at 127) (word-on ∷ []) 7 (Turn 1) (tells (Halted (Sink (Full 127))) 7)
+    ∷ spot (replicate 128 1) (spent-at 128) (word-on ∷ []) 7 (Turn 1) (tells (Halted (Cells 7)) 7)
+    -- too few trees for the children, told before the full sink
+    ∷ spot (1 ∷ 2 ∷ []) (spent-at 1) [] 7 (Turn 1) (tells (Halted (Sink (TooFewTrees 1))) 7)
     -- the four slips
     ∷ spot (2 ∷ []) (holding 1) [] 7 (Turn 1) (tells (Halted (Slip 1)) 7)
     ∷ spot (2 ∷ 2 ∷ []) (holding 2) [] 7 (Turn 1) (tells (Halted (Slip 2)) 7)
@@ -221,9 +233,10 @@ spots =
     -- with no step left an accept that slips is told, a reduce that would slip is not
     ∷ spot (1 ∷ 1 ∷ []) (holding 2) [] 7 (Turn 0) (tells (Halted (Slip 4)) 7)
     ∷ spot (2 ∷ []) (holding 1) [] 7 (Turn 0) (tells More 7)
-    -- so are a reject at END and an accept
-    ∷ spot (1 ∷ []) (holding 1) (five ∷ []) 7 (Turn 0) (tells (Rejected (Some 3)) 7)
+    -- so are an accept, and a reject of a token and, in a state that is none, of END
     ∷ spot (1 ∷ []) (holding 1) [] 7 (Turn 0) (tells Accepted 7)
+    ∷ spot (1 ∷ []) (holding 1) (five ∷ []) 7 (Turn 0) (tells (Rejected (Some 3)) 7)
+    ∷ spot (3 ∷ []) (holding 1) [] 7 (Turn 0) (tells (Rejected None) 7)
     ∷ []
 
 -- the tree of `on off`
