@@ -29,18 +29,22 @@ module _ {V : Type 0} where
   declined Stop r = cond (ended (r .outcome)) (Some (Ended (r .steps))) None
   declined Mark r = cond (ended (r .outcome)) None (Some (BeforeEnd (r .steps)))
 
+  -- what a report tells
   abbrev pub report : State V → Report
   report r = record { outcome = r .outcome; steps = r .steps }
 
+  -- f, unless it is declined
   abbrev pub unless : Option Declined → (State V → State V) → State V → State V
   unless None f r = f r
   unless (Some d) f r = r
 
+-- x, unless it is declined
 abbrev pub or-declined : {A : Type 0} → Option Declined → A → Result A Declined
 or-declined None x = Ok x
 or-declined (Some d) x = Err d
 
 module _ {V : Type 0} (R : Algebra V) where
+  -- what a call does that is not declined
   abbrev pub done : Call → State V → State V
   done (Turn n) r = spend R n r
   done Tell r = r
@@ -51,6 +55,7 @@ module _ {V : Type 0} (R : Algebra V) where
   abbrev pub called : Call → State V → State V
   called c r = unless (declined c r) (λ s. done c s) r
 
+  -- the reading after calls, one after the other
   abbrev pub after-calls : List Call → State V → State V
   after-calls [] r = r
   after-calls (c ∷ cs) r = after-calls cs (called c r)

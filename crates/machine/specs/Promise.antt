@@ -45,6 +45,7 @@ pub record Hopeless {V : Type 0} (run : Run V) (r : State V) (p : Option ℕ) : 
 abbrev pub FittingTree : {V : Type 0} → Run V → Type 0
 FittingTree run = (t : Tree) × TreeOf (run .table .grammar) (run .stream .tokens) t × Fits run t
 
+-- what is promised of the run
 pub record Promised (states : ℕ) {V : Type 0} (R : Algebra V) (run : Run V) : Type 0 where
   -- on every lawful table
   pub accepts-trees : after R run .outcome ≡ Accepted → ReadWhole R run (after R run)
@@ -61,14 +62,18 @@ abbrev pub Promise : Type 0 → Type 0
 Promise V = (states : ℕ) (R : Algebra V) (run : Run V) →
     Lawful states (run .table) → Kinded (run .stream .tokens) → Promised states R run
 
--- what a run never exceeds, and that there is a value behind those at new for each cell
+-- what a run never exceeds or changes; behind the values at new there is one for each cell
 pub record Bounded {V : Type 0} (run : Run V) (r : State V) : Type 0 where
+  pub table-kept : r .table ≡ run .table
+  pub ending-kept : r .stream .ending ≡ run .stream .ending
+  pub tokens-left : (taken : List Token) × (run .stream .tokens ≡ taken ++ r .stream .tokens)
   pub steps-granted : r .steps ≤ grant run
   pub grant-bounded : grant run ≤ most-steps
   pub cells-bounded : length (r .cells) ≤ most-cells
   pub list-grown : (vs : List V) × (r .stack .list ≡ run .stack .list ++ vs) × (length vs ≡ length (r .cells))
   pub enough-trees : (n : ℕ) → r .outcome ≡ Halted (Sink (TooFewTrees n)) → ⊥
 
+-- so it is of every run
 abbrev pub Bounds : Type 0 → Type 0
 Bounds V = (R : Algebra V) (run : Run V) → Bounded run (after R run)
 
@@ -77,6 +82,7 @@ pub record TrueAnswer {V : Type 0} (R : Algebra V) (c : Call) (r : State V) : Ty
   pub declined-unmoved : (d : Declined) → answer R c r ≡ Err d → called R c r ≡ r
   pub told-truly : (x : Report) → answer R c r ≡ Ok x → x ≡ report (called R c r)
 
+-- so it is of every call on every reading
 abbrev pub AnswersTruly : Type 0 → Type 0
 AnswersTruly V = (R : Algebra V) (c : Call) (r : State V) → TrueAnswer R c r
 

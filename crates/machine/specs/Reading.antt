@@ -32,6 +32,7 @@ most-cells = 128
 abbrev pub most-steps : ℕ
 most-steps = 1000000000000
 
+-- how a reading stands
 pub record State (V : Type 0) : Type 0 where
   pub table : Automaton
   -- a state each, the oldest first: the used places at the front of an array
@@ -46,11 +47,13 @@ pub record State (V : Type 0) : Type 0 where
 abbrev pub last-of : List ℕ → ℕ
 last-of ss = getD ss (length ss - 1) 0
 
+-- where a rejection is: at the next token, for END at no place
 abbrev pub place-of-next : List Token → Option ℕ
 place-of-next [] = None
 place-of-next (t ∷ ts) = Some (t .place)
 
 module _ {V : Type 0} where
+  -- all as it is, with another outcome
   abbrev pub with-outcome : State V → Outcome → State V
   with-outcome r o = record {
     table = r .table;
@@ -61,16 +64,19 @@ module _ {V : Type 0} where
     outcome = o;
   }
 
+  -- the same, halted
   abbrev pub halt : State V → Halt → State V
   halt r h = with-outcome r (Halted h)
 
 -- first the action is found
 
+-- the action on what a peek answers
 abbrev pub peeked : (ℕ → Action) → Result (Option Token) SourceFault → Result Action SourceFault
 peeked act (Err f) = Err f
 peeked act (Ok None) = Ok (act 0)
 peeked act (Ok (Some t)) = Ok (act (t .kind))
 
+-- the reduction of a default goes before it
 abbrev pub unless-default : Option ℕ → Result Action SourceFault → Result Action SourceFault
 unless-default None x = x
 unless-default (Some p) x = Ok (Reduce p)
@@ -80,6 +86,7 @@ abbrev pub found : Automaton → ℕ → Stream → Result Action SourceFault
 found M s stream = unless-default (M .default s) (peeked (M .action s) (answer stream))
 
 module _ {V : Type 0} where
+  -- what is found where the reading stands
   abbrev pub found-in : State V → Result Action SourceFault
   found-in r = found (r .table) (last-of (r .cells)) (r .stream)
 
@@ -98,6 +105,7 @@ module _ {V : Type 0} where
 
   -- then a step is made
 
+  -- one step on
   abbrev pub stepped : List ℕ → Stack V → Stream → State V → State V
   stepped ss stack stream r = record {
     table = r .table;
@@ -108,6 +116,7 @@ module _ {V : Type 0} where
     outcome = More;
   }
 
+  -- the step where the sink takes its event, else a halt
   abbrev pub sent-to : Result (Unit {0}) SinkFault → State V → State V → State V
   sent-to (Ok u) r next = next
   sent-to (Err f) r next = halt r (Sink f)
@@ -138,11 +147,12 @@ module _ {V : Type 0} (R : Algebra V) where
       let stack = node-after R p k (r .stack) in
       if-room (node-answer k (r .stack)) r (stepped (front k (r .cells) ++ (t ∷ [])) stack (r .stream) r)
 
-  -- (no lawful table reduces by an absent production)
+  -- a reduce by production p, which a lawful table has
   abbrev pub reducing : ℕ → Option Rule → State V → State V
   reducing p None r = halt r (Slip 1)
   reducing p (Some rule) r = going p (length (rule .right)) r (landing-from (r .table) rule (r .cells))
 
+  -- what the action found makes of the reading
   abbrev pub step-by : State V → Result Action SourceFault → State V
   step-by r (Err f) = with-outcome r (settled r (Err f))
   step-by r (Ok (Shift t)) = shifting t r (r .stream .tokens)

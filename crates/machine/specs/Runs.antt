@@ -15,6 +15,7 @@ use Rattle.outcome.specs.declared.Call.the-variants.{Turn, Stop, Mark, Report a
 use Rattle.machine.specs.Reading.{State, most-cells, most-steps}
 use Rattle.machine.specs.Calls.{after-calls}
 
+-- what stood at new, and all calls since, the first one first
 pub record Run (V : Type 0) : Type 0 where
   pub table : Automaton
   pub stream : Stream
@@ -54,9 +55,11 @@ granted g (Tell ∷ cs) = granted g cs
 granted g (Stop ∷ cs) = g
 granted g (Mark ∷ cs) = granted g cs
 
+-- how many steps the calls of a run grant
 abbrev pub grant : {V : Type 0} → Run V → ℕ
 grant run = granted 0 (run .calls)
 
+-- n is within a count
 abbrev pub AtMost : ℕ → Count → Type 0
 AtMost n endless = Unit {0}
 AtMost n (limited m) = n ≤ m

@@ -12,6 +12,7 @@ use Rattle.outcome.specs.declared.Outcome.the-variants.{More, Accepted, Reject
 use Rattle.outcome.specs.declared.Declined.{Declined}
 use Rattle.outcome.specs.declared.Declined.the-variants.{Ended, TooManySteps, BeforeEnd}
 
+-- what a case tells
 pub record Notice : Type 0 where
   pub number : ℕ
   pub place : ℕ

@@ -36,6 +36,7 @@ pub impl From<SinkFault> for Halt as HaltFromSink {
 }
 
 impl Halt {
+    /// The number of the refusal.
     pub fn number(self) -> u8
         ensures { λ r. ⌜ r ≡ of-halt self .number ⌝ }
     {
@@ -47,6 +48,7 @@ impl Halt {
         }
     }
 
+    /// Where it was met: a place in the plan, a count of steps or of trees, or the slip's own number.
     pub fn place(self) -> u64
         ensures { λ r. ⌜ r ≡ of-halt self .place ⌝ }
     {
@@ -80,6 +82,7 @@ pub enum Outcome {
 }
 
 impl Outcome {
+    /// Whether no further step will be made.
     pub fn has_ended(self) -> bool
         ensures { λ r. ⌜ r ≡ ended self ⌝ }
     {
@@ -89,6 +92,7 @@ impl Outcome {
         }
     }
 
+    /// Where the reading was rejected or halted.
     pub fn place(self) -> Option<u64>
         ensures { λ r. ⌜ r ≡ place-of self ⌝ }
     {
@@ -110,6 +114,7 @@ pub enum Declined {
 }
 
 impl Declined {
+    /// The number of the refusal.
     pub fn number(self) -> u8
         ensures { λ r. ⌜ r ≡ of-declined self .number ⌝ }
     {
@@ -120,6 +125,7 @@ impl Declined {
         }
     }
 
+    /// The steps made so far.
     pub fn place(self) -> u64
         ensures { λ r. ⌜ r ≡ of-declined self .place ⌝ }
     {

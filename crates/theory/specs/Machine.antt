@@ -25,10 +25,12 @@ abbrev pub seen : Bool → List Token → Option ℕ
 seen ended [] = cond ended (Some 0) None
 seen ended (t ∷ ts) = Some (t .kind)
 
+-- the action on what is shown
 abbrev pub looked : (ℕ → Action) → Option ℕ → Option Action
 looked act None = None
 looked act (Some a) = Some (act a)
 
+-- the reduction of a default goes before it
 abbrev pub unless-default : Option ℕ → Option Action → Option Action
 unless-default None o = o
 unless-default (Some p) o = Some (Reduce p)
@@ -39,12 +41,14 @@ found M s sight = unless-default (M .default s) (looked (M .action s) sight)
 
 -- whether cells carry what a reduce or an accept wants
 
+-- two symbols are the same
 abbrev pub same-symbol : Symbol → Symbol → Bool
 same-symbol (Terminal a) (Terminal b) = eqb a b
 same-symbol (Terminal a) (Nonterminal b) = false
 same-symbol (Nonterminal a) (Terminal b) = false
 same-symbol (Nonterminal a) (Nonterminal b) = eqb a b
 
+-- the symbol that enters a state, if one does, is X
 abbrev pub enters : Symbol → Option Symbol → Bool
 enters X None = false
 enters X (Some Y) = same-symbol Y X
@@ -60,11 +64,13 @@ carry M (s ∷ ss) (X ∷ α) = enters X (M .incoming s) && carry M ss α
 abbrev pub carry-start : Automaton → List ℕ → Bool
 carry-start M ss = carry M ss (start ∷ [])
 
+-- a reduce with no goto slips
 abbrev pub landed : Option ℕ → Result ℕ ℕ
 landed None = Err 3
 landed (Some t) = Ok t
 
--- where a reduce by r leads that finds the states `top`, in order, over `below`: a state, or the number of a slip
+-- where a reduce by r leads that finds the states `top`, in order, over `below`: a state, or the number of a slip: 1 with
+-- too few cells, 2 with a wrong symbol, 3 with no goto
 abbrev pub landing : Automaton → Rule → Bool → List ℕ → ℕ → Result ℕ ℕ
 landing M r enough top below =
     cond enough (cond (carry M top (r .right)) (landed (M .goto below (r .left))) (Err 2)) (Err 1)
@@ -77,6 +83,7 @@ pub record Core (V : Type 0) : Type 0 where
   pub values : List V
   pub rest : List Token
 
+-- a core of these parts
 abbrev pub core : {V : Type 0} → List ℕ → List V → List Token → Core V
 core ss vs w = record { cells = ss; values = vs; rest = w }
 
@@ -89,6 +96,7 @@ abbrev pub current : List ℕ → ℕ
 current [] = 0
 current (s ∷ ss) = s
 
+-- what a move comes to
 pub data Move (V : Type 0) : Type 0 where
   on : Core V → Move V
   accepts : Move V
@@ -117,6 +125,7 @@ module _ {V : Type 0} (R : Algebra V) where
       let v = R .node-rule p (reverse (take k (c .values))) in
       core (t ∷ drop k (c .cells)) (v ∷ drop k (c .values)) (c .rest)
 
+  -- a reduce goes on where it lands, or slips
   abbrev pub land : ℕ → ℕ → Core V → Result ℕ ℕ → Move V
   land p k c (Err n) = slips n
   land p k c (Ok t) = on (with-node p k t c)
@@ -127,15 +136,17 @@ landing-of M r ss =
     let k = length (r .right) in
     landing M r (leb k (length ss)) (reverse (take k ss)) (current (drop k ss))
 
+-- an accept wants the start alone, else it slips
 abbrev pub accept-with : {V : Type 0} → Automaton → List ℕ → Move V
 accept-with M ss = cond (carry-start M ss) accepts (slips 4)
 
 module _ {V : Type 0} (R : Algebra V) (M : Automaton) where
-  -- (a lawful table reduces by no absent production)
+  -- a reduce by production p, which a lawful table has
   abbrev pub reduce-by : ℕ → Option Rule → Core V → Move V
   reduce-by p None c = slips 1
   reduce-by p (Some r) c = land R p (length (r .right)) c (landing-of M r (c .cells))
 
+  -- what an action makes of c; with none it starves
   abbrev pub perform : Core V → Option Action → Move V
   perform c None = starves
   perform c (Some (Shift t)) = shift-to R t (c .cells) (c .values) (c .rest)

@@ -7,6 +7,7 @@ use Rattle.syntax.specs.Trees.{Tree, leaf, node, Forest, no-tree, tree-then}
 use Rattle.syntax.specs.Values.{Algebra}
 use Rattle.theory.specs.Machine.{Core, core, Move, on, accepts, rejects, slips, starves}
 
+-- a list of trees as a forest
 abbrev pub forest : List Tree → Forest
 forest [] = no-tree
 forest (t ∷ ts) = tree-then t (forest ts)
@@ -20,10 +21,11 @@ pub record Homomorphism {V W : Type 0} (R : Algebra V) (S : Algebra W) (h : V �
   pub on-leaf : (t : Token) → h (R .leaf-rule t) ≡ S .leaf-rule t
   pub on-node : (p : ℕ) (vs : List V) → h (R .node-rule p vs) ≡ S .node-rule p (map h vs)
 
--- the same with its values mapped
+-- a core with its values mapped
 abbrev pub core-map : {V W : Type 0} → (V → W) → Core V → Core W
 core-map h c = core (c .cells) (map h (c .values)) (c .rest)
 
+-- a move with its values mapped
 abbrev pub move-map : {V W : Type 0} → (V → W) → Move V → Move W
 move-map h (on c) = on (core-map h c)
 move-map h accepts = accepts

@@ -20,6 +20,7 @@ empty-rule = record { left = 0; right = [] }
 abbrev pub longer-rule : Rule
 longer-rule = record { left = 0; right = Nonterminal 0 ∷ Terminal 1 ∷ [] }
 
+-- by number
 abbrev pub rules : Grammar
 rules zero = Some empty-rule
 rules (suc zero) = Some longer-rule
@@ -32,12 +33,14 @@ entries (suc zero) = Some (Nonterminal 0)
 entries (suc (suc zero)) = Some (Terminal 1)
 entries (suc (suc (suc s))) = None
 
+-- state 0 makes the empty start, and state 2 the longer one, without a look
 abbrev pub defaults : ℕ → Option ℕ
 defaults zero = Some 0
 defaults (suc zero) = None
 defaults (suc (suc zero)) = Some 1
 defaults (suc (suc (suc s))) = None
 
+-- state 1 accepts at the end and shifts a word
 abbrev pub actions : ℕ → ℕ → Action
 actions zero a = Reject
 actions (suc zero) zero = Accept
@@ -45,34 +48,40 @@ actions (suc zero) (suc zero) = Shift 2
 actions (suc zero) (suc (suc a)) = Reject
 actions (suc (suc s)) a = Reject
 
+-- a start leads from state 0 to state 1
 abbrev pub gotos : ℕ → ℕ → Option ℕ
 gotos zero zero = Some 1
 gotos zero (suc n) = None
 gotos (suc s) n = None
 
+-- the table
 abbrev pub practice : Automaton
 practice = record { grammar = rules; incoming = entries; default = defaults; action = actions; goto = gotos }
 
 -- the hints
 
+-- a start always stands before the word that enters state 2
 abbrev pub past : ℕ → List Symbol
 past zero = []
 past (suc zero) = []
 past (suc (suc zero)) = Nonterminal 0 ∷ []
 past (suc (suc (suc s))) = []
 
+-- below state 1 lies state 0, and below state 2 lie state 1 and then 0
 abbrev pub sets : ℕ → List Set
 sets zero = []
 sets (suc zero) = eqb 0 ∷ []
 sets (suc (suc zero)) = eqb 1 ∷ eqb 0 ∷ []
 sets (suc (suc (suc s))) = []
 
+-- an item with its look-aheads
 pub record ItemRow : Type 0 where
   pub state : ℕ
   pub production : ℕ
   pub dot : ℕ
   pub looks : Set
 
+-- the same of its parts
 abbrev pub item : ℕ → ℕ → ℕ → Set → ItemRow
 item s p d looks = record { state = s; production = p; dot = d; looks = looks }
 
@@ -83,6 +92,7 @@ at-end = eqb 0
 abbrev pub anywhere : Set
 anywhere a = eqb 0 a || eqb 1 a
 
+-- all there are
 abbrev pub items : List ItemRow
 items =
     item 0 0 0 anywhere
@@ -93,11 +103,13 @@ items =
     ∷ item 2 1 2 anywhere
     ∷ []
 
+-- the look-aheads that a list of items gives
 abbrev pub looks-in : List ItemRow → ℕ → ℕ → ℕ → Set
 looks-in [] s p d = λ a. false
 looks-in (i ∷ is) s p d =
     cond (eqb (i .state) s && (eqb (i .production) p && eqb (i .dot) d)) (i .looks) (looks-in is s p d)
 
+-- the start is nullable and begins with a word, and there is no other nonterminal
 abbrev pub practice-hints : Hints
 practice-hints = record {
   past-symbols = past;

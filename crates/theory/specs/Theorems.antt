@@ -54,6 +54,7 @@ abbrev pub NoSlips : {V : Type 0} → Algebra V → Automaton → Type 0
 NoSlips {V} R M = (ended : Bool) (n : ℕ) (w : List Token) (c : Core V) → moves R M ended n (fresh w) ≡ on c →
     (k : ℕ) → move R M ended c ≡ slips k → ⊥
 
+-- a table that is safe under some hints comes to none
 abbrev pub NeverSlips : Type 0 → Type 0
 NeverSlips V = (states : ℕ) (M : Automaton) → SafeUnderHints states M → (R : Algebra V) → NoSlips R M
 
@@ -65,9 +66,11 @@ pub record TreeRead {V : Type 0} (R : Algebra V) (M : Automaton) (w : List Token
   pub leads : Leads R M (reach t) true (size t) (fresh w) (core (last ∷ []) (read R t ∷ []) [])
   pub accepted : move R M true (core (last ∷ []) (read R t ∷ []) []) ≡ accepts
 
+-- every tree of every text is read
 abbrev pub ReadsAll : {V : Type 0} → Algebra V → Automaton → Type 0
 ReadsAll R M = (w : List Token) (t : Tree) → TreeOf (M .grammar) w t → TreeRead R M w t
 
+-- by a table that is complete under some hints and comes to no slip
 abbrev pub ReadsEveryTree : Type 0 → Type 0
 ReadsEveryTree V =
     (states : ℕ) (M : Automaton) → CompleteUnderHints states M → (R : Algebra V) → NoSlips R M → ReadsAll R M
@@ -85,6 +88,7 @@ pub record OnTheWay {V : Type 0} (R : Algebra V) (M : Automaton) (t : Tree) (k :
   pub goes-on : k < size t → (e : Core V) × (move R M true d ≡ on e) × (length (e .cells) ≤ reach t)
   pub ends-well : k ≡ size t → move R M true d ≡ accepts
 
+-- where every tree is read, every run on its text is on the way to it
 abbrev pub StaysOnTheWay : Type 0 → Type 0
 StaysOnTheWay V = (M : Automaton) (R : Algebra V) → ReadsAll R M →
     (w : List Token) (t : Tree) → TreeOf (M .grammar) w t →
