@@ -69,8 +69,8 @@ abbrev pub landed : Option ℕ → Result ℕ ℕ
 landed None = Err 3
 landed (Some t) = Ok t
 
--- where a reduce by r leads that finds the states `top`, in order, over `below`: a state, or the number of a slip: 1 with
--- too few cells, 2 with a wrong symbol, 3 with no goto
+-- where a reduce by r leads that finds the states `top`, in order, over `below`: a state, or the number of a slip,
+-- which is 1 with too few cells, 2 with a wrong symbol and 3 with no goto
 abbrev pub landing : Automaton → Rule → Bool → List ℕ → ℕ → Result ℕ ℕ
 landing M r enough top below =
     cond enough (cond (carry M top (r .right)) (landed (M .goto below (r .left))) (Err 2)) (Err 1)
