@@ -14,10 +14,12 @@ use Rattle.table.specs.Automaton.{Automaton, decide}
 use Rattle.table.specs.Hints.{Set, _∈_, _⊆_, Occupied, Hints, added, Behind}
 
 module _ (H : Hints) where
+  -- a symbol is nullable; no terminal is
   abbrev pub nullable-symbol : Symbol → Bool
   nullable-symbol (Terminal a) = false
   nullable-symbol (Nonterminal n) = H .nullable n
 
+  -- the first terminals of a symbol; a terminal is its own
   abbrev pub first-symbol : Symbol → Set
   first-symbol (Terminal a) = eqb a
   first-symbol (Nonterminal n) = H .firsts n
@@ -48,6 +50,7 @@ module _ (H : Hints) where
 abbrev pub SomeRight : Grammar → ℕ → (List Symbol → Type 0) → Type 0
 SomeRight G n P = (p : ℕ) × (r : Rule) × (G p ≡ Some r) × (r .left ≡ n) × P (r .right)
 
+-- the conditions
 pub record Complete (M : Automaton) (H : Hints) : Type 0 where
   -- a nonterminal is nullable, or has a first terminal, exactly when some right side of it is or has
   pub nullable-solved : (n : ℕ) → (n ∈ H .nullable) ↔ SomeRight (M .grammar) n (λ α. T (nullable-all H α))

@@ -18,9 +18,11 @@ infix 50 _∈_ _⊆_
 abbrev pub Set : Type 0
 Set = ℕ → Bool
 
+-- membership
 abbrev pub _∈_ : ℕ → Set → Type 0
 x ∈ P = T (P x)
 
+-- inclusion
 abbrev pub _⊆_ : Set → Set → Type 0
 P ⊆ Q = (x : ℕ) → x ∈ P → x ∈ Q
 
@@ -28,6 +30,7 @@ P ⊆ Q = (x : ℕ) → x ∈ P → x ∈ Q
 abbrev pub Occupied : Set → Type 0
 Occupied P = (x : ℕ) × (x ∈ P)
 
+-- what is said of a table
 pub record Hints : Type 0 where
   -- the symbols that always stand before the incoming one of a state, the nearest last
   pub past-symbols : ℕ → List Symbol
@@ -50,6 +53,7 @@ deepest = 8
 abbrev pub added : ℕ
 added = 254
 
+-- the right side of a production, if there is one
 abbrev pub right-of : Option Rule → Option (List Symbol)
 right-of None = None
 right-of (Some r) = Some (r .right)
@@ -62,6 +66,7 @@ right-side G p = cond (eqb p added) (Some (start ∷ [])) (right-of (G p))
 abbrev pub Behind : Grammar → ℕ → ℕ → List Symbol → Type 0
 Behind G p d γ = (α : List Symbol) × (right-side G p ≡ Some α) × (drop d α ≡ γ)
 
+-- a symbol, if there is one, as a list
 abbrev pub incoming-list : Option Symbol → List Symbol
 incoming-list None = []
 incoming-list (Some X) = X ∷ []

@@ -45,6 +45,7 @@ module _ (M : Automaton) (H : Hints) where
     pub entered-by-start : M .incoming s ≡ Some start
     pub initial-below : (P : Set) × (H .past-sets s ≡ P ∷ []) × ((x : ℕ) → (x ∈ P) ↔ (x ≡ 0))
 
+  -- the conditions
   pub record Safe : Type 0 where
     -- an edge respects the past of the state that it leads to
     pub edge-symbols : (s t : ℕ) → Edge M s t → Ends (H .past-symbols t) (trail M H s)
@@ -53,5 +54,5 @@ module _ (M : Automaton) (H : Hints) where
     pub reduce-symbols : (s p : ℕ) (r : Rule) → Reduces M s p → M .grammar p ≡ Some r → Ends (r .right) (trail M H s)
     pub reduce-gotos : (s p : ℕ) (r : Rule) → Reduces M s p → M .grammar p ≡ Some r →
         GotosAt s (length (r .right)) (r .left)
-    -- an accepting state has one start below it and nothing else
+    -- an accepting state has the start on top of the initial state
     pub accept-alone : (s a : ℕ) → M .action s a ≡ Accept → Alone s

@@ -27,6 +27,7 @@ pub record Valid (states : ℕ) (M : Automaton) : Type 0 where
   pub safe : Safe M hints
   pub complete : Complete M hints
 
+-- a valid table is safe under its hints
 abbrev pub safe-half : {states : ℕ} {M : Automaton} → Valid states M → SafeUnderHints states M
 safe-half v = record {
   hints = v .hints;
@@ -35,5 +36,6 @@ safe-half v = record {
   safe = v .safe;
 }
 
+-- and complete
 abbrev pub complete-half : {states : ℕ} {M : Automaton} → Valid states M → CompleteUnderHints states M
 complete-half v = record { hints = v .hints; lawful = v .lawful; complete = v .complete }

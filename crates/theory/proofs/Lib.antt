@@ -1,0 +1,15 @@
+pub mod Built
+pub mod Clash
+pub mod Firsts
+pub mod Hinted
+pub mod Hopeless
+pub mod Moves
+pub mod Natural
+pub mod Completeness
+pub mod Onward
+pub mod Practice
+pub mod PracticeCases
+pub mod Safety
+pub mod Sound
+pub mod Symbols
+pub mod View

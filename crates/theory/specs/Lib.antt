@@ -1,0 +1,4 @@
+pub mod Machine
+pub mod Maps
+pub mod Practice
+pub mod Theorems
