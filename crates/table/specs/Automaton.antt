@@ -1,5 +1,4 @@
 -- What a table means: a grammar and an LR(1) automaton, of which state 0 is initial.
-use mathlib.Core.Path.{_≡_}
 use mathlib.Core.List.{List, [], _∷_}
 use Prim.Native.Nat.{ℕ, zero, suc}
 use lib.ListN.{length}
