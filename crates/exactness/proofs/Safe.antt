@@ -60,17 +60,125 @@ module _ (sh : Sheet) where
   says-rule : (s : ℕ) (r : Rule) → s < sh .format .states → Says (rule-safe sh s r) (RuleSafe s r)
   says-rule s r lt =
       both (says-ends _ _) (found-says (nth (shadow (hints sh) s) (length (r .right))) (λ X e.
-      says-go X (r .left) (every-nth (Bounded (sh .format .states)) _ _ X (shadow-bounded s lt) e)))
+      says-go X (r .left) (every-nth (Bounded (sh .format .states)) (shadow (hints sh) s) (length (r .right)) X (shadow-bounded s lt) e)))
 
-  says-initial : (xs : List Set) → Every (Bounded (sh .format .states)) xs →
-      Says (initial-alone sh xs) ((X : Set) × (xs ≡ X ∷ []) × ((x : ℕ) → (x ∈ X) ↔ (x ≡ 0)))
-  says-initial [] few = record { to = λ h. absurd h; back = λ h. ? }
-  says-initial (X ∷ []) few = ?
-  says-initial (X ∷ Y ∷ xs) few = record { to = λ h. absurd h; back = λ h. ? }
+  -- one set, of the initial state alone
+  abbrev InitialAlone : List Set → Type 0
+  InitialAlone xs = (X : Set) × (xs ≡ X ∷ []) × ((x : ℕ) → (x ∈ X) ↔ (x ≡ 0))
+
+  T-initial : (xs : List Set) → Every (Bounded (sh .format .states)) xs → T (initial-alone sh xs) → InitialAlone xs
+  T-initial [] few h = absurd h
+  T-initial (X ∷ []) few h =
+      let (zero-in, others) = T-and _ _ h in
+      let only = says-subset (sh .format .states) X (eqb 0) (few .0) .to others in
+      (X, refl, λ x. (λ k. sym (eqb→eq 0 x (only x k)), λ e. subst (λ y. y ∈ X) (sym e) zero-in))
+  T-initial (X ∷ Y ∷ xs) few h = absurd h
+
+  initial-T : (xs : List Set) → Every (Bounded (sh .format .states)) xs → InitialAlone xs → T (initial-alone sh xs)
+  initial-T xs few (X, e, only) =
+      subst (λ ys. T (initial-alone sh ys)) (sym e)
+      (and-T _ _ (only 0 .1 refl)
+      (says-subset (sh .format .states) X (eqb 0) (subst (Every (Bounded (sh .format .states))) e few .0) .back
+      (λ x k. eq-T 0 x (sym (only x .0 k)))))
 
   says-accept : (s : ℕ) → Says (accept-safe sh s) (Alone (automaton sh) (hints sh) s)
   says-accept s =
       says-as
       (λ h. record { not-initial = h .0; entered-by-start = h .1 .0; initial-below = h .1 .1 })
       (λ a. (a .not-initial, (a .entered-by-start, a .initial-below)))
-      (both (never (equal s 0)) (both (is-symbol (automaton sh .incoming s) start) (says-initial _ (past-bounded s))))
+      (both (never (equal s 0)) (both (is-symbol (automaton sh .incoming s) start) (record { to = T-initial _ (past-bounded s); back = initial-T _ (past-bounded s) })))
+
+-- THE TESTS OF THE RECORDS
+
+-- each record passes its test of safety
+abbrev pub SafeRecords : Sheet → Type 0
+SafeRecords sh = (i : ℕ) → i < count sh → T (by-letter (record-at sh i) (safe-as sh (record-at sh i)))
+
+module _ (sh : Sheet) (w : Formed sh) where
+  abbrev law : Lawful (sh .format .states) (automaton sh)
+  law = lawful sh w
+
+  edge-from : (s t : ℕ) → Edge (automaton sh) s t → s < sh .format .states
+  edge-from s t (inl (a, e)) = law .states-few s (law .shift-enters s a t e .0)
+  edge-from s t (inr (n, e)) = law .states-few s (law .goto-enters s n t e .0)
+
+  reduce-from : (s p : ℕ) → Reduces (automaton sh) s p → (s < sh .format .states) × Present (automaton sh .grammar p)
+  reduce-from s p (inl e) = let (state, rule) = law .default-known s p e in (law .states-few s state, rule)
+  reduce-from s p (inr (a, e)) = let (state, few, rule) = law .reduce-known s a p e in (law .states-few s state, rule)
+
+  says-reduce : (s p : ℕ) → Reduces (automaton sh) s p →
+      Says (reduce-safe sh s p) ((r : Rule) → automaton sh .grammar p ≡ Some r → RuleSafe sh s r)
+  says-reduce s p h =
+      let (lt, (q, is)) = reduce-from s p h in
+      says-as
+      (λ (r, e, safe) r′ e′. subst (RuleSafe sh s) (some-same (sym e ∙ e′)) safe)
+      (λ f. (q, is, f q is))
+      (found-says (automaton sh .grammar p) (λ r e. says-rule sh s r lt))
+
+  module _ (passed : SafeRecords sh) where
+    safe-at : (l : Letter) (a b c i : ℕ) → Row sh l a b c i → T (safe-as sh (record-at sh i) l)
+    safe-at l a b c i r = says-of-letter sh i l (r .is-0) (safe-as sh (record-at sh i)) .to (passed i (r .within))
+
+    action-passed : (s a : ℕ) (x : Action) → (Reject ≡ x → ⊥) → automaton sh .action s a ≡ x → T (action-safe sh s x)
+    action-passed s a x other e =
+        let (i, r, is) = action-row sh s a x other e in
+        subst₂ (λ k y. T (action-safe sh k y)) (r .is-1) is (safe-at A s a 0 i r)
+
+    edge-passed : (s t : ℕ) → Edge (automaton sh) s t → EdgeSafe sh s t
+    edge-passed s t h = says-edge sh s t (edge-from s t h) .to (go h)
+      where
+        go : Edge (automaton sh) s t → T (edge-safe sh s t)
+        go (inl (a, e)) = action-passed s a (Shift t) (reject-shift t) e
+        go (inr (n, e)) =
+            let (i, r, is) = goto-row sh s n t e in
+            subst₂ (λ k y. T (edge-safe sh k y)) (r .is-1) is (safe-at G s n 0 i r)
+
+    reduce-passed : (s p : ℕ) (r : Rule) → Reduces (automaton sh) s p → automaton sh .grammar p ≡ Some r → RuleSafe sh s r
+    reduce-passed s p r h = says-reduce s p h .to (go h) r
+      where
+        go : Reduces (automaton sh) s p → T (reduce-safe sh s p)
+        go (inl e) =
+            let (i, r, is) = default-row sh s p e in
+            subst₂ (λ k y. T (reduce-safe sh k y)) (r .is-1) is (safe-at D s 0 0 i r)
+        go (inr (a, e)) = action-passed s a (Reduce p) (reject-reduce p) e
+
+    pub safe-of-records : Safe (automaton sh) (hints sh)
+    safe-of-records = record {
+      edge-symbols = λ s t h. edge-passed s t h .0;
+      edge-sets = λ s t h. edge-passed s t h .1;
+      reduce-symbols = λ s p r h e. reduce-passed s p r h e .0;
+      reduce-gotos = λ s p r h e. reduce-passed s p r h e .1;
+      accept-alone = λ s a e. says-accept sh s .to (action-passed s a Accept reject-accept e);
+    }
+
+  module _ (safe : Safe (automaton sh) (hints sh)) where
+    edge-passes : (s t : ℕ) → Edge (automaton sh) s t → T (edge-safe sh s t)
+    edge-passes s t h = says-edge sh s t (edge-from s t h) .back (safe .edge-symbols s t h, safe .edge-sets s t h)
+
+    reduce-passes : (s p : ℕ) → Reduces (automaton sh) s p → T (reduce-safe sh s p)
+    reduce-passes s p h =
+        says-reduce s p h .back (λ r e. (safe .reduce-symbols s p r h e, safe .reduce-gotos s p r h e))
+
+    action-passes : (s a : ℕ) (x : Action) → automaton sh .action s a ≡ x → T (action-safe sh s x)
+    action-passes s a (Shift t) e = edge-passes s t (inl (a, e))
+    action-passes s a (Reduce p) e = reduce-passes s p (inr (a, e))
+    action-passes s a Accept e = says-accept sh s .back (safe .accept-alone s a e)
+    action-passes s a Reject e = tt
+
+    -- a record that is found by its own key
+    record-passes : (i : ℕ) (l : Letter) →
+        placed sh l (byte sh i 1) (second (record-at sh i) l) (third (record-at sh i) l) ≡ Some i →
+        T (safe-as sh (record-at sh i) l)
+    record-passes i A e = action-passes _ _ _ (ap (given Reject (λ i. action-in (record-at sh i))) e)
+    record-passes i D e = reduce-passes _ _ (inl (ap (mapped (λ i. byte sh i 4)) e))
+    record-passes i G e = edge-passes _ _ (inr (byte sh i 2, ap (mapped (λ i. byte sh i 4)) e))
+    record-passes i I e = tt
+    record-passes i K e = tt
+    record-passes i N e = tt
+    record-passes i P e = tt
+    record-passes i S e = tt
+
+    pub records-of-safe : SafeRecords sh
+    records-of-safe i lt =
+        let k = known sh (w .sorted) i lt in
+        says-of-letter sh i (k .which) (k .is-letter) (safe-as sh (record-at sh i)) .back (record-passes i (k .which) (k .found))
