@@ -145,7 +145,7 @@ module _ (sh : Sheet) (w : Formed sh) where
       let (few, even) = ranged N n 0 0 i r .1 .1 .1 .1 in
       (member-of-even (sh .format) _ a even k, member-low (sh .format) terminals _ a few k)
 
-  dot-within : (s p d i : ℕ) → Row sh I s p d i →
+  pub dot-within : (s p d i : ℕ) → Row sh I s p d i →
       (α : List Symbol) × (right-side (automaton sh .grammar) p ≡ Some α) × (d ≤ length α)
   dot-within s p d i r =
       let (n, e, le) = sense-at sh w I s p d i r in

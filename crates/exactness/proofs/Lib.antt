@@ -5,3 +5,5 @@ pub mod Symbols
 pub mod Hints
 pub mod Sets
 pub mod Safe
+pub mod Complete
+pub mod Exact
