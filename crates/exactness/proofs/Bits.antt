@@ -1,15 +1,22 @@
--- Sets as numbers: their members are their bits.
+-- Sets as numbers: their members are their bits, and what a program does with the numbers it does with the sets.
 use mathlib.Core.Path.{_≡_, refl, sym, ap, subst, _∙_}
-use mathlib.Core.Logic.{_⊎_, inl, inr, ⊎-elim}
-use mathlib.Core.Bool.{_&&_}
-use Prim.Native.Nat.{ℕ, zero, suc, _+_, _*_, _/_, _%_, _^_, _≤_, _<_}
+use mathlib.Core.Logic.{_⊎_, inl, inr, ⊎-elim, _↔_}
+use mathlib.Core.Bool.{Bool, true, false, cond, _&&_, _||_}
+use Prim.Native.Nat.{ℕ, zero, suc, _+_, _*_, _/_, _%_, _^_, _≤_, _<_, min, max}
 use native.Mathlib.Nat.{div-lt-iff-lt-mul, pow-le-pow-right, one-mul, pow-suc}
 use native.Mathlib.Omega.{arith}
 use lib.Pow.{pow-pos, shr-shr}
-use lib.Dec.{T, eqb, ltb}
-use Rattle.std.proofs.shelf.Tests.{cases-lt, cases-eq}
-use Rattle.layout.specs.Records.{Format, member}
-use Rattle.wellformed.proofs.Says.{Says, both, less, equal}
+use lib.Bits.{bitAnd, bitOr, and-step, or-step, and-shr, or-shr, and-comm}
+use lib.Dec.{T, eqb, eqb→eq, ltb}
+use Rattle.std.proofs.shelf.Tests.{cases-lt, cases-eq, eq-eqb}
+use Rattle.table.specs.Lawful.{narrow}
+use Rattle.table.specs.Hints.{Set, _∈_}
+use Rattle.layout.specs.Choices.{below}
+use Rattle.layout.specs.Checking.{subset, same-test}
+use Rattle.layout.specs.Records.{Format, sixteen, member}
+use Rattle.wellformed.proofs.Says.{Says, both, either, less, equal, all-below}
+use Rattle.wellformed.proofs.Tests.{eq-T, T-and, T-or}
+use Rattle.exactness.proofs.Sets.{itself, says-as, one-test, says-same, Bounded, says-subset}
 
 -- bit x of a set
 abbrev pub Bit : ℕ → ℕ → Type 0
@@ -63,3 +70,11 @@ module _ (f : Format) where
   pub member-of-even : (m x : ℕ) → m % 2 ≡ 0 → T (member f m x) → 1 ≤ x
   member-of-even m zero even h = let bit = says-member f m 0 .to h .1 in absurd (omega arith)
   member-of-even m (suc x) even h = omega arith
+
+-- BITS OF TWO NUMBERS
+
+and-digit : (x y i : ℕ) → (bitAnd x y / 2 ^ i) % 2 ≡ min ((x / 2 ^ i) % 2) ((y / 2 ^ i) % 2)
+and-digit x y i = ap (λ z. z % 2) (and-shr x y i) ∙ omega (arith, and-step (x / 2 ^ i) (y / 2 ^ i))
+
+or-digit : (x y i : ℕ) → (bitOr x y / 2 ^ i) % 2 ≡ max ((x / 2 ^ i) % 2) ((y / 2 ^ i) % 2)
+or-digit x y i = ap (λ z. z % 2) (or-shr x y i) ∙ omega (arith, or-step (x / 2 ^ i) (y / 2 ^ i))

@@ -1,11 +1,13 @@
 -- The verdict is none exactly of the sheets that meet all conditions, and these hold valid tables.
-use mathlib.Core.Path.{_≡_}
+use mathlib.Core.Path.{_≡_, refl, sym, ap}
 use mathlib.Core.List.{List}
 use mathlib.Core.Bool.{Bool, true, false, cond}
 use Prim.Native.Nat.{ℕ, _+_, _≤_, _<_}
 use native.Mathlib.Omega.{arith}
-use lib.Dec.{T, ltb}
-use Rattle.std.specs.declared.option.Option.the-variants.{None}
+use lib.Dec.{T, ltb, lit≤}
+use Rattle.std.proofs.shelf.Tests.{false≢true}
+use Rattle.std.specs.declared.option.Option.{Option}
+use Rattle.std.specs.declared.option.Option.the-variants.{Some, None}
 use Rattle.std.specs.Options.{isSome}
 use Rattle.syntax.specs.Grammar.{terminals}
 use Rattle.table.specs.Lawful.{narrow}
@@ -13,16 +15,16 @@ use Rattle.table.specs.Validity.{Valid}
 use Rattle.layout.specs.declared.Refusal.the-variants.{Unsafe, Incomplete}
 use Rattle.layout.specs.Records.{Sheet, sheet, count, record-at}
 use Rattle.layout.specs.Meaning.{automaton, hints}
-use Rattle.layout.specs.Opening.{by-letter}
+use Rattle.layout.specs.Opening.{by-letter, opening}
 use Rattle.layout.specs.Checking.{complete-as, initial-item, checking-passes, verdict}
 use Rattle.wellformed.specs.Told.{AllClean}
 use Rattle.wellformed.proofs.Tests.{T-unless, unless-T}
 use Rattle.wellformed.proofs.Says.{Says, split, less}
 use Rattle.wellformed.proofs.Formed.{opens-exactly-formed}
 use Rattle.wellformed.proofs.Lawful.{lawful}
-use Rattle.exactness.specs.Exactness.{Meets, Passes-exactly-the-valid, Checked-is-valid}
+use Rattle.exactness.specs.Exactness.{Meets, Passes-exactly-the-valid, Passes-in-each-format, Checked-is-valid}
 use Rattle.exactness.proofs.Sets.{itself}
-use Rattle.exactness.proofs.Told.{verdict-none, none-verdict}
+use Rattle.exactness.proofs.Told.{verdict-none, none-verdict, verdict-opens}
 use Rattle.exactness.proofs.Hints.{hints-lawful}
 use Rattle.exactness.proofs.Safe.{SafeRecords, safe-of-records, records-of-safe}
 use Rattle.exactness.proofs.Complete.{CompleteRecords, complete-of-records, records-of-complete}
@@ -59,8 +61,11 @@ module _ (sh : Sheet) where
       none-verdict sh (opens-exactly-formed sh .1 (m .formed))
       (clean-records (records-of-safe sh (m .formed) (m .safe)) (records-of-complete sh (m .formed) wide (m .complete)) (m .complete .initial-item))
 
+pub passes-in-each-format : Passes-in-each-format
+passes-in-each-format sh wide = (meets-of sh, passes sh wide)
+
 pub passes-exactly-the-valid : Passes-exactly-the-valid
-passes-exactly-the-valid sh wide = (meets-of sh, passes sh wide)
+passes-exactly-the-valid bs = passes-in-each-format (sheet bs) (lit≤ tt)
 
 pub checked-is-valid : Checked-is-valid
 checked-is-valid sh e =
@@ -72,3 +77,15 @@ checked-is-valid sh e =
       safe = m .safe;
       complete = m .complete;
     }
+
+-- AS A SHEET THAT IS HELD HAS IT
+
+none-there : {X : Type 0} (o : Option X) → isSome o ≡ false → o ≡ None
+none-there None e = refl
+none-there (Some x) e = absurd (false≢true (sym e))
+
+pub valid-of : (bs : List ℕ) → isSome (verdict (sheet bs)) ≡ false → Valid narrow (automaton (sheet bs))
+valid-of bs e = checked-is-valid (sheet bs) (none-there _ e)
+
+pub opens-of : (bs : List ℕ) → isSome (verdict (sheet bs)) ≡ false → isSome (opening (sheet bs)) ≡ false
+opens-of bs e = ap isSome (verdict-opens (sheet bs) (none-there _ e))

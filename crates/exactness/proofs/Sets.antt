@@ -29,6 +29,13 @@ itself b = record { to = λ h. h; back = λ h. h }
 pub says-as : {b : Bool} {P Q : Type 0} → (P → Q) → (Q → P) → Says b P → Says b Q
 says-as f g s = record { to = λ h. f (s .to h); back = λ h. s .back (g h) }
 
+-- two tests that say the same are the same
+pub one-test : {x y : Bool} {P : Type 0} → Says x P → Says y P → x ≡ y
+one-test {x = true} {y = true} p q = refl
+one-test {x = true} {y = false} p q = absurd (q .back (p .to tt))
+one-test {x = false} {y = true} p q = absurd (p .back (q .to tt))
+one-test {x = false} {y = false} p q = refl
+
 -- one holds exactly when the other does
 pub says-same : {x y : Bool} {P Q : Type 0} → Says x P → Says y Q → Says (same-test x y) (P ↔ Q)
 says-same {x = true} p q = record {

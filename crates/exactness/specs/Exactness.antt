@@ -1,8 +1,8 @@
 -- What the verdict on a sheet says, as theorems about definitions alone.
 use mathlib.Core.Path.{_≡_}
-use mathlib.Core.List.{_++_}
+use mathlib.Core.List.{List, _++_}
 use mathlib.Core.Logic.{_↔_}
-use Prim.Native.Nat.{_≤_}
+use Prim.Native.Nat.{ℕ, _≤_}
 use Rattle.std.specs.declared.option.Option.the-variants.{Some, None}
 use Rattle.syntax.specs.Grammar.{terminals}
 use Rattle.table.specs.Hints.{HintsLawful}
@@ -10,7 +10,7 @@ use Rattle.table.specs.Safety.{Safe}
 use Rattle.table.specs.Completeness.{Complete}
 use Rattle.table.specs.Validity.{Valid}
 use Rattle.layout.specs.declared.Refusal.{Refusal}
-use Rattle.layout.specs.Records.{Sheet}
+use Rattle.layout.specs.Records.{Sheet, sheet}
 use Rattle.layout.specs.Meaning.{automaton, hints}
 use Rattle.layout.specs.Opening.{opening-passes}
 use Rattle.layout.specs.Checking.{checking-passes, verdict}
@@ -23,9 +23,13 @@ pub record Meets (sh : Sheet) : Type 0 where
   pub safe : Safe (automaton sh) (hints sh)
   pub complete : Complete (automaton sh) (hints sh)
 
--- nothing is refused exactly of the sheets that meet all conditions, where a set has room for every terminal
+-- nothing is refused exactly of the sheets that meet all conditions
 abbrev pub Passes-exactly-the-valid : Type 0
-Passes-exactly-the-valid = (sh : Sheet) → terminals ≤ sh .format .states → (verdict sh ≡ None) ↔ Meets sh
+Passes-exactly-the-valid = (bs : List ℕ) → (verdict (sheet bs) ≡ None) ↔ Meets (sheet bs)
+
+-- and so it is in every format whose sets have room for the terminals
+abbrev pub Passes-in-each-format : Type 0
+Passes-in-each-format = (sh : Sheet) → terminals ≤ sh .format .states → (verdict sh ≡ None) ↔ Meets sh
 
 -- the hints of a well-formed sheet are in place together with its table
 abbrev pub Hints-are-lawful : Type 0
