@@ -283,8 +283,8 @@ module _ (sh : Sheet) (w : Formed sh) (wide : terminals ≤ sh .format .states) 
       d ≤ length α → (γ : List Symbol) → drop d α ≡ γ → ItemComplete sh w s p d γ
   item-holds s p d α item e le [] is = (
     λ is-added look.
-    let end = dot-at-end d α (added-side (automaton sh .grammar) p α is-added e) le is in
-    c .final-accepts s (subst₂ (λ q k. 0 ∈ hints sh .look-aheads s q k) is-added end look),
+        let end = dot-at-end d α (added-side (automaton sh .grammar) p α is-added e) le is in
+        c .final-accepts s (subst₂ (λ q k. 0 ∈ hints sh .look-aheads s q k) is-added end look),
     λ other a look. c .done-reduces s p d a look other (α, e, is),
   )
   item-holds s p d α item e le (Terminal b ∷ β) is = c .terminal-shifts s p d b β item (α, e, is)
