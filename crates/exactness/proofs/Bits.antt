@@ -87,7 +87,9 @@ within-bits : (n x y : ℕ) → x < 2 ^ n → ((i : ℕ) → Bit x i → Bit y i
 within-bits zero x y h f = let z : x ≡ 0 = omega arith in subst (λ v. bitAnd v y ≡ v) (sym z) refl
 within-bits (suc n) x y h f =
     let h′ : x < 2 ^ n * 2 = rw pow-suc at h in
-    let rest = within-bits n (x / 2) (y / 2) (omega arith) (λ i b. half-bit y i ∙ f (suc i) (sym (half-bit x i) ∙ b)) in
+    let rest = within-bits n (x / 2) (y / 2) (omega arith)
+    (λ i b. half-bit y i ∙ f (suc i) (sym (half-bit x i) ∙ b))
+    in
     let step = and-step x y in
     let low : x % 2 ≡ 1 → y % 2 ≡ 1 = λ e. let b = f 0 (omega arith) in omega arith in
     ⊎-elim
@@ -98,7 +100,9 @@ within-bits (suc n) x y h f =
 says-within : (n x y : ℕ) → x < 2 ^ n → Says (eqb (bitAnd x y) x) ((i : ℕ) → Bit x i → Bit y i)
 says-within n x y lt = says-as
     (λ e i b.
-    let digit : (x / 2 ^ i) % 2 ≡ min ((x / 2 ^ i) % 2) ((y / 2 ^ i) % 2) = ap (λ z. (z / 2 ^ i) % 2) (sym e) ∙ and-digit x y i in
+    let digit : (x / 2 ^ i) % 2 ≡ min ((x / 2 ^ i) % 2) ((y / 2 ^ i) % 2) =
+    ap (λ z. (z / 2 ^ i) % 2) (sym e) ∙ and-digit x y i
+    in
     omega arith)
     (within-bits n x y lt)
     (equal (bitAnd x y) x)
@@ -108,14 +112,22 @@ one-number : (n x y : ℕ) → x < 2 ^ n → y < 2 ^ n → ((i : ℕ) → Bit x 
 one-number n x y few few′ same =
     sym (within-bits n x y few (λ i. same i .0)) ∙ and-comm x y ∙ within-bits n y x few′ (λ i. same i .1)
 
+twice : (s : ℕ) → 2 ^ suc s ≡ 2 ^ s * 2
+twice s = pow-suc 2 s
+
 -- the bits of 2 ^ s
 power-bit : (s x : ℕ) → Bit (2 ^ s) x ↔ (s ≡ x)
 power-bit zero zero = (λ b. refl, λ e. omega arith)
-power-bit zero (suc x) = (λ b. absurd (let lt = low-bit 1 1 (suc x) (omega arith) b in omega arith), λ e. absurd (omega arith))
-power-bit (suc s) zero = (λ b. absurd (let e : 2 ^ suc s ≡ 2 ^ s * 2 = pow-suc 2 s in omega arith), λ e. absurd (omega arith))
+power-bit zero (suc x) = (
+  λ b. absurd (let lt = low-bit 1 1 (suc x) (omega arith) b in omega arith),
+  λ e. absurd (omega arith),
+)
+power-bit (suc s) zero = (λ b. absurd (omega (arith, twice s)), λ e. absurd (omega arith))
 power-bit (suc s) (suc x) =
-    let half : 2 ^ suc s / 2 ≡ 2 ^ s = let e : 2 ^ suc s ≡ 2 ^ s * 2 = pow-suc 2 s in omega arith in
-    let digit : (2 ^ s / 2 ^ x) % 2 ≡ (2 ^ suc s / 2 ^ suc x) % 2 = ap (λ m. (m / 2 ^ x) % 2) (sym half) ∙ half-bit (2 ^ suc s) x in
+    let half : 2 ^ suc s / 2 ≡ 2 ^ s = omega (arith, twice s) in
+    let digit : (2 ^ s / 2 ^ x) % 2 ≡ (2 ^ suc s / 2 ^ suc x) % 2 =
+    ap (λ m. (m / 2 ^ x) % 2) (sym half) ∙ half-bit (2 ^ suc s) x
+    in
     (λ b. ap suc (power-bit s x .0 (digit ∙ b)), λ e. sym digit ∙ power-bit s x .1 (omega arith))
 
 -- NUMBERS THAT STAND FOR SETS
@@ -127,25 +139,35 @@ Stands f m X = (x : ℕ) → member f m x ≡ X x
 module _ (f : Format) where
   pub stands-none : Stands f 0 (λ x. false)
   stands-none x =
-      one-test (says-member f 0 x) (says-as (λ h. absurd h) (λ (lt, b). let lt = low-bit 0 0 x (omega arith) b in omega arith) (itself false))
+      let none : Bit 0 x → ⊥ = λ b. let lt = low-bit 0 0 x (omega arith) b in omega arith in
+      one-test (says-member f 0 x) (says-as (λ h. absurd h) (λ (lt, b). none b) (itself false))
 
   pub stands-one : (s : ℕ) → s < f .states → Stands f (2 ^ s) (eqb s)
   stands-one s lt x =
-      one-test (says-member f (2 ^ s) x)
-      (says-as (λ e. (subst (λ k. k < f .states) e lt, power-bit s x .1 e)) (λ (few, b). power-bit s x .0 b) (equal s x))
+      one-test (says-member f (2 ^ s) x) (says-as
+      (λ e. (subst (λ k. k < f .states) e lt, power-bit s x .1 e))
+      (λ (few, b). power-bit s x .0 b)
+      (equal s x))
 
-  or-bit : (m k x : ℕ) → ((x < f .states) × Bit m x) ⊎ ((x < f .states) × Bit k x) → (x < f .states) × Bit (bitOr m k) x
+  abbrev Member : ℕ → ℕ → Type 0
+  Member m x = (x < f .states) × Bit m x
+
+  or-bit : (m k x : ℕ) → Member m x ⊎ Member k x → Member (bitOr m k) x
   or-bit m k x (inl (lt, b)) = (lt, omega (arith, or-digit m k x))
   or-bit m k x (inr (lt, b)) = (lt, omega (arith, or-digit m k x))
 
-  bit-or : (m k x : ℕ) → (x < f .states) × Bit (bitOr m k) x → ((x < f .states) × Bit m x) ⊎ ((x < f .states) × Bit k x)
+  bit-or : (m k x : ℕ) → Member (bitOr m k) x → Member m x ⊎ Member k x
   bit-or m k x (lt, b) =
       let digit = or-digit m k x in
-      ⊎-elim (λ e. inl (lt, e)) (λ (other : (m / 2 ^ x) % 2 ≡ 1 → ⊥). inr (lt, omega arith)) (cases-eq ((m / 2 ^ x) % 2) 1)
+      ⊎-elim
+      (λ e. inl (lt, e))
+      (λ (other : (m / 2 ^ x) % 2 ≡ 1 → ⊥). inr (lt, omega arith))
+      (cases-eq ((m / 2 ^ x) % 2) 1)
 
   pub stands-either : (m k : ℕ) (X Y : Set) → Stands f m X → Stands f k Y → Stands f (bitOr m k) (λ x. X x || Y x)
   stands-either m k X Y p q x =
-      one-test (says-member f (bitOr m k) x) (says-as (or-bit m k x) (bit-or m k x) (either (says-member f m x) (says-member f k x)))
+      let parts = either (says-member f m x) (says-member f k x) in
+      one-test (says-member f (bitOr m k) x) (says-as (or-bit m k x) (bit-or m k x) parts)
       ∙ ap₂ (λ a b. a || b) (p x) (q x)
 
   pub stands-if : (b : Bool) (m : ℕ) (X : Set) → Stands f m X → Stands f (cond b m 0) (λ x. b && X x)
@@ -159,8 +181,8 @@ module _ (f : Format) where
   bit-is m x lt = one-test (equal ((m / 2 ^ x) % 2) 1) (says-as (λ h. h .1) (λ b. (lt, b)) (says-member f m x))
 
   -- a member of what a number stands for
-  says-in : (m : ℕ) (X : Set) → Stands f m X → (i : ℕ) → Says (X i) ((i < f .states) × Bit m i)
-  says-in m X stands i = subst (λ b. Says b ((i < f .states) × Bit m i)) (stands i) (says-member f m i)
+  says-in : (m : ℕ) (X : Set) → Stands f m X → (i : ℕ) → Says (X i) (Member m i)
+  says-in m X stands i = subst (λ b. Says b (Member m i)) (stands i) (says-member f m i)
 
   module _ (n : ℕ) (room : n ≤ f .states) (x : ℕ) (X : Set) (few : x < 2 ^ n) (in-x : Stands f x X) where
     bit-in : (i : ℕ) → Bit x i → i ∈ X
@@ -183,7 +205,7 @@ module _ (f : Format) where
           λ b. let lt = low-bit n x i few b in same i lt .0 (omega arith, b) .1,
           λ b. let lt = low-bit n y i few′ b in same i lt .1 (omega arith, b) .1,
         )))
-        (λ e i lt. subst (λ z. ((i < f .states) × Bit x i) ↔ ((i < f .states) × Bit z i)) e (λ h. h, λ h. h))
+        (λ e i lt. subst (λ z. Member x i ↔ Member z i) e (λ h. h, λ h. h))
         (all-below n (λ i. says-same (says-in x X in-x i) (says-in y Y in-y i))))
 
     -- x == 1: the initial state alone
@@ -203,5 +225,7 @@ module _ (f : Format) where
 pub subset-bits : (x y : ℕ) → x < 2 ^ narrow →
     (eqb (bitAnd x y) x ≡ true) ↔ T (subset narrow (member sixteen x) (member sixteen y))
 subset-bits x y lt =
-    let is = subset-is sixteen narrow (omega arith) x (member sixteen x) lt (λ i. refl) y (member sixteen y) (λ i. refl) in
+    let X : Set = member sixteen x in
+    let Y : Set = member sixteen y in
+    let is = subset-is sixteen narrow (omega arith) x X lt (λ i. refl) y Y (λ i. refl) in
     (λ e. subst T (sym e ∙ is) tt, λ h. eq-eqb _ _ (eqb→eq _ _ (subst T (sym is) h)))

@@ -16,7 +16,7 @@ use Rattle.layout.specs.declared.Refusal.the-variants.{Unsafe, Incomplete}
 use Rattle.layout.specs.Records.{Sheet, sheet, count, record-at}
 use Rattle.layout.specs.Meaning.{automaton, hints}
 use Rattle.layout.specs.Opening.{by-letter, opening}
-use Rattle.layout.specs.Checking.{complete-as, initial-item, checking-passes, verdict}
+use Rattle.layout.specs.Checking.{safe-as, complete-as, initial-item, checking-passes, verdict}
 use Rattle.wellformed.specs.Told.{AllClean}
 use Rattle.wellformed.proofs.Tests.{T-unless, unless-T}
 use Rattle.wellformed.proofs.Says.{Says, split, less}
@@ -24,42 +24,61 @@ use Rattle.wellformed.proofs.Formed.{opens-exactly-formed}
 use Rattle.wellformed.proofs.Lawful.{lawful}
 use Rattle.exactness.specs.Exactness.{Meets, Passes-exactly-the-valid, Passes-in-each-format, Checked-is-valid}
 use Rattle.exactness.proofs.Sets.{itself}
+use Rattle.exactness.proofs.Letters.{EachRecord}
 use Rattle.exactness.proofs.Told.{verdict-none, none-verdict, verdict-opens}
 use Rattle.exactness.proofs.Hints.{hints-lawful}
-use Rattle.exactness.proofs.Safe.{SafeRecords, safe-of-records, records-of-safe}
-use Rattle.exactness.proofs.Complete.{CompleteRecords, complete-of-records, records-of-complete}
+use Rattle.exactness.proofs.Safe.{safe-of-records, records-of-safe}
+use Rattle.exactness.proofs.Complete.{complete-of-records, records-of-complete}
 
 module _ (sh : Sheet) where
+  abbrev record-complete : ℕ → Bool
+  record-complete i = by-letter (record-at sh i) (complete-as sh (record-at sh i))
+
   -- the last pass tests a record, and behind the last record the initial item
   says-last : (i : ℕ) →
-      Says (cond (ltb i (count sh)) (by-letter (record-at sh i) (complete-as sh (record-at sh i))) (initial-item sh))
-      ((i < count sh → T (by-letter (record-at sh i) (complete-as sh (record-at sh i)))) × ((i < count sh → ⊥) → T (initial-item sh)))
+      Says (cond (ltb i (count sh)) (record-complete i) (initial-item sh))
+      ((i < count sh → T (record-complete i)) × ((i < count sh → ⊥) → T (initial-item sh)))
   says-last i = split (less i (count sh)) (itself _) (itself _)
 
-  records-clean : AllClean (checking-passes sh) → SafeRecords sh × CompleteRecords sh × T (initial-item sh)
-  records-clean (safe-clean, (complete-clean, end)) = (
-    λ i lt. T-unless _ (Unsafe i) (safe-clean i lt),
-    λ i lt. says-last i .to (T-unless _ (Incomplete i) (complete-clean i (omega arith))) .0 lt,
-    says-last (count sh) .to (T-unless _ (Incomplete (count sh)) (complete-clean (count sh) (omega arith))) .1 (λ lt. omega arith),
-  )
+  -- every record is safe and complete, and there is the initial item
+  pub record AllPass : Type 0 where
+    pub safe : EachRecord sh (safe-as sh)
+    pub complete : EachRecord sh (complete-as sh)
+    pub initial : T (initial-item sh)
 
-  clean-records : SafeRecords sh → CompleteRecords sh → T (initial-item sh) → AllClean (checking-passes sh)
-  clean-records safe complete initial = (
-    λ i lt. unless-T _ (Unsafe i) (safe i lt),
-    (λ i lt. unless-T _ (Incomplete i) (says-last i .back (complete i, λ end. initial)), tt),
+  clean-passes : AllClean (checking-passes sh) → AllPass
+  clean-passes (safe-clean, (complete-clean, end)) =
+      let last : (i : ℕ) → i < count sh + 1 → T _ = λ i lt. T-unless _ (Incomplete i) (complete-clean i lt) in
+      record {
+        safe = λ i lt. T-unless _ (Unsafe i) (safe-clean i lt);
+        complete = λ i lt. says-last i .to (last i (omega arith)) .0 lt;
+        initial = says-last (count sh) .to (last (count sh) (omega arith)) .1 (λ lt. omega arith);
+      }
+
+  passes-clean : AllPass → AllClean (checking-passes sh)
+  passes-clean a = (
+    λ i lt. unless-T _ (Unsafe i) (a .safe i lt),
+    (λ i lt. unless-T _ (Incomplete i) (says-last i .back (a .complete i, λ end. a .initial)), tt),
   )
 
   pub meets-of : verdict sh ≡ None → Meets sh
   meets-of e =
       let (opens, clean) = verdict-none sh e in
-      let (safe, complete, initial) = records-clean clean in
       let w = opens-exactly-formed sh .0 opens in
-      record { formed = w; safe = safe-of-records sh w safe; complete = complete-of-records sh w complete initial }
+      let a = clean-passes clean in
+      record {
+        formed = w;
+        safe = safe-of-records sh w (a .safe);
+        complete = complete-of-records sh w (a .complete) (a .initial);
+      }
 
   passes : terminals ≤ sh .format .states → Meets sh → verdict sh ≡ None
   passes wide m =
-      none-verdict sh (opens-exactly-formed sh .1 (m .formed))
-      (clean-records (records-of-safe sh (m .formed) (m .safe)) (records-of-complete sh (m .formed) wide (m .complete)) (m .complete .initial-item))
+      none-verdict sh (opens-exactly-formed sh .1 (m .formed)) (passes-clean (record {
+        safe = records-of-safe sh (m .formed) (m .safe);
+        complete = records-of-complete sh (m .formed) (m .complete) wide;
+        initial = m .complete .initial-item;
+      }))
 
 pub passes-in-each-format : Passes-in-each-format
 passes-in-each-format sh wide = (meets-of sh, passes sh wide)

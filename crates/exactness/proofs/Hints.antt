@@ -102,7 +102,8 @@ module _ (sh : Sheet) (w : Formed sh) where
   known-gapless : (n : ℕ) → suc n ∈ hints sh .known → n ∈ hints sh .known
   known-gapless n h =
       let (i, r) = known-row (suc n) h in
-      known-symbol sh (Nonterminal n) (one-less (λ k. Has sh N k 0) (byte sh i 1) n (r .is-1) (gap-at sh w N (suc n) 0 0 i r))
+      let gap = gap-at sh w N (suc n) 0 0 i r in
+      known-symbol sh (Nonterminal n) (one-less (λ k. Has sh N k 0) (byte sh i 1) n (r .is-1) gap)
 
   down-to-start : (n : ℕ) → n ∈ hints sh .known → 0 ∈ hints sh .known
   down-to-start zero h = h
@@ -149,7 +150,8 @@ module _ (sh : Sheet) (w : Formed sh) where
       (α : List Symbol) × (right-side (automaton sh .grammar) p ≡ Some α) × (d ≤ length α)
   dot-within s p d i r =
       let (n, e, le) = sense-at sh w I s p d i r in
-      let (α, side, long) = side-of-length (eqb p added) (automaton sh .grammar p) n (subst (λ k. right-length sh k ≡ Some n) (r .is-2) e) in
+      let e′ = subst (λ k. right-length sh k ≡ Some n) (r .is-2) e in
+      let (α, side, long) = side-of-length (eqb p added) (automaton sh .grammar p) n e′ in
       (α, side, omega (arith, r .is-3))
 
   items-fit : (s p d a : ℕ) → a ∈ hints sh .look-aheads s p d → LookAhead (automaton sh) s p d a

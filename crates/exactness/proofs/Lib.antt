@@ -1,9 +1,10 @@
 pub mod Told
-pub mod Practice
+pub mod Sets
 pub mod Bits
+pub mod Letters
 pub mod Symbols
 pub mod Hints
-pub mod Sets
 pub mod Safe
 pub mod Complete
 pub mod Exact
+pub mod Practice

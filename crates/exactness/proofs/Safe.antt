@@ -20,16 +20,16 @@ use Rattle.layout.specs.declared.Letter.the-variants.{A, D, G, I, K, N, P, S}
 use Rattle.layout.specs.Choices.{given, mapped, present}
 use Rattle.layout.specs.Records.{Sheet, count, record-at, byte, action-in}
 use Rattle.layout.specs.Meaning.{placed, automaton, hints}
-use Rattle.layout.specs.Opening.{by-letter}
 use Rattle.layout.specs.Checking.{subset, edge-safe, all-go, rule-safe, reduce-safe, initial-alone, accept-safe, action-safe, safe-as}
 use Rattle.wellformed.specs.Formed.{Formed}
 use Rattle.wellformed.proofs.Tests.{eq-T, T-and, and-T, T-given, given-T, some-same}
 use Rattle.wellformed.proofs.Says.{Says, both, never, equal, there, is-symbol}
-use Rattle.wellformed.proofs.Rows.{Row, Known, known, second, third}
+use Rattle.wellformed.proofs.Rows.{Row}
 use Rattle.wellformed.proofs.Lawful.{action-row, default-row, goto-row, reject-shift, reject-reduce, reject-accept, lawful}
 use Rattle.exactness.proofs.Bits.{member-fits}
 use Rattle.exactness.proofs.Symbols.{every-nth}
-use Rattle.exactness.proofs.Sets.{itself, says-as, found-says, says-of-letter, Bounded, says-members, says-subset, says-covers, says-ends}
+use Rattle.exactness.proofs.Sets.{itself, says-as, found-says, Bounded, says-members, says-subset, says-covers, says-ends}
+use Rattle.exactness.proofs.Letters.{EachRecord, OwnKey, passed-at, each-passes}
 use Rattle.exactness.proofs.Hints.{past-sets-are}
 
 -- WHAT THE TESTS SAY
@@ -38,12 +38,14 @@ module _ (sh : Sheet) where
   -- s and t keep the conditions of an edge
   abbrev EdgeSafe : ℕ → ℕ → Type 0
   EdgeSafe s t =
-      Ends (hints sh .past-symbols t) (trail (automaton sh) (hints sh) s) × Covers (hints sh .past-sets t) (shadow (hints sh) s)
+      Ends (hints sh .past-symbols t) (trail (automaton sh) (hints sh) s)
+      × Covers (hints sh .past-sets t) (shadow (hints sh) s)
 
   -- and s and a production those of a reduction
   abbrev RuleSafe : ℕ → Rule → Type 0
   RuleSafe s r =
-      Ends (r .right) (trail (automaton sh) (hints sh) s) × GotosAt (automaton sh) (hints sh) s (length (r .right)) (r .left)
+      Ends (r .right) (trail (automaton sh) (hints sh) s)
+      × GotosAt (automaton sh) (hints sh) s (length (r .right)) (r .left)
 
   past-bounded : (s : ℕ) → Every (Bounded (sh .format .states)) (hints sh .past-sets s)
   past-bounded s = past-sets-are sh (Bounded (sh .format .states)) s (λ d i r x h. member-fits (sh .format) _ x h)
@@ -59,8 +61,9 @@ module _ (sh : Sheet) where
 
   says-rule : (s : ℕ) (r : Rule) → s < sh .format .states → Says (rule-safe sh s r) (RuleSafe s r)
   says-rule s r lt =
+      let few = every-nth (Bounded (sh .format .states)) (shadow (hints sh) s) (length (r .right)) in
       both (says-ends _ _) (found-says (nth (shadow (hints sh) s) (length (r .right))) (λ X e.
-      says-go X (r .left) (every-nth (Bounded (sh .format .states)) (shadow (hints sh) s) (length (r .right)) X (shadow-bounded s lt) e)))
+      says-go X (r .left) (few X (shadow-bounded s lt) e)))
 
   -- one set, of the initial state alone
   abbrev InitialAlone : List Set → Type 0
@@ -81,18 +84,17 @@ module _ (sh : Sheet) where
       (says-subset (sh .format .states) X (eqb 0) (subst (Every (Bounded (sh .format .states))) e few .0) .back
       (λ x k. eq-T 0 x (sym (only x .0 k)))))
 
+  says-initial : (s : ℕ) → Says (initial-alone sh (hints sh .past-sets s)) (InitialAlone (hints sh .past-sets s))
+  says-initial s = record { to = T-initial _ (past-bounded s); back = initial-T _ (past-bounded s) }
+
   says-accept : (s : ℕ) → Says (accept-safe sh s) (Alone (automaton sh) (hints sh) s)
   says-accept s =
       says-as
       (λ h. record { not-initial = h .0; entered-by-start = h .1 .0; initial-below = h .1 .1 })
       (λ a. (a .not-initial, (a .entered-by-start, a .initial-below)))
-      (both (never (equal s 0)) (both (is-symbol (automaton sh .incoming s) start) (record { to = T-initial _ (past-bounded s); back = initial-T _ (past-bounded s) })))
+      (both (never (equal s 0)) (both (is-symbol (automaton sh .incoming s) start) (says-initial s)))
 
 -- THE TESTS OF THE RECORDS
-
--- each record passes its test of safety
-abbrev pub SafeRecords : Sheet → Type 0
-SafeRecords sh = (i : ℕ) → i < count sh → T (by-letter (record-at sh i) (safe-as sh (record-at sh i)))
 
 module _ (sh : Sheet) (w : Formed sh) where
   abbrev law : Lawful (sh .format .states) (automaton sh)
@@ -115,9 +117,9 @@ module _ (sh : Sheet) (w : Formed sh) where
       (λ f. (q, is, f q is))
       (found-says (automaton sh .grammar p) (λ r e. says-rule sh s r lt))
 
-  module _ (passed : SafeRecords sh) where
+  module _ (passed : EachRecord sh (safe-as sh)) where
     safe-at : (l : Letter) (a b c i : ℕ) → Row sh l a b c i → T (safe-as sh (record-at sh i) l)
-    safe-at l a b c i r = says-of-letter sh i l (r .is-0) (safe-as sh (record-at sh i)) .to (passed i (r .within))
+    safe-at = passed-at sh (safe-as sh) passed
 
     action-passed : (s a : ℕ) (x : Action) → (Reject ≡ x → ⊥) → automaton sh .action s a ≡ x → T (action-safe sh s x)
     action-passed s a x other e =
@@ -133,7 +135,8 @@ module _ (sh : Sheet) (w : Formed sh) where
             let (i, r, is) = goto-row sh s n t e in
             subst₂ (λ k y. T (edge-safe sh k y)) (r .is-1) is (safe-at G s n 0 i r)
 
-    reduce-passed : (s p : ℕ) (r : Rule) → Reduces (automaton sh) s p → automaton sh .grammar p ≡ Some r → RuleSafe sh s r
+    reduce-passed : (s p : ℕ) (r : Rule) → Reduces (automaton sh) s p → automaton sh .grammar p ≡ Some r →
+        RuleSafe sh s r
     reduce-passed s p r h = says-reduce s p h .to (go h) r
       where
         go : Reduces (automaton sh) s p → T (reduce-safe sh s p)
@@ -165,10 +168,7 @@ module _ (sh : Sheet) (w : Formed sh) where
     action-passes s a Accept e = says-accept sh s .back (safe .accept-alone s a e)
     action-passes s a Reject e = tt
 
-    -- a record that is found by its own key
-    record-passes : (i : ℕ) (l : Letter) →
-        placed sh l (byte sh i 1) (second (record-at sh i) l) (third (record-at sh i) l) ≡ Some i →
-        T (safe-as sh (record-at sh i) l)
+    record-passes : (i : ℕ) (l : Letter) → OwnKey sh i l → T (safe-as sh (record-at sh i) l)
     record-passes i A e = action-passes _ _ _ (ap (given Reject (λ i. action-in (record-at sh i))) e)
     record-passes i D e = reduce-passes _ _ (inl (ap (mapped (λ i. byte sh i 4)) e))
     record-passes i G e = edge-passes _ _ (inr (byte sh i 2, ap (mapped (λ i. byte sh i 4)) e))
@@ -178,7 +178,5 @@ module _ (sh : Sheet) (w : Formed sh) where
     record-passes i P e = tt
     record-passes i S e = tt
 
-    pub records-of-safe : SafeRecords sh
-    records-of-safe i lt =
-        let k = known sh (w .sorted) i lt in
-        says-of-letter sh i (k .which) (k .is-letter) (safe-as sh (record-at sh i)) .back (record-passes i (k .which) (k .found))
+    pub records-of-safe : EachRecord sh (safe-as sh)
+    records-of-safe = each-passes sh (safe-as sh) (w .sorted) record-passes

@@ -14,14 +14,10 @@ use Rattle.syntax.specs.declared.Symbol.{Symbol}
 use Rattle.syntax.specs.Grammar.{Every}
 use Rattle.table.specs.Hints.{Set, _∈_, _⊆_}
 use Rattle.table.specs.Safety.{Ends, Covers}
-use Rattle.layout.specs.declared.Letter.{Letter}
 use Rattle.layout.specs.Choices.{given, implies, below}
-use Rattle.layout.specs.Records.{Sheet, record-at, byte, code}
-use Rattle.layout.specs.Opening.{by-letter}
 use Rattle.layout.specs.Checking.{subset, same-test, same-symbols, ends, covers}
 use Rattle.wellformed.proofs.Tests.{T-and, and-T, T-implies, implies-T, T-below, below-T, T-given, given-T}
 use Rattle.wellformed.proofs.Says.{Says, always, both, symbols-same}
-use Rattle.wellformed.proofs.Rows.{says-by-letter, at-letter}
 
 pub itself : (b : Bool) → Says b (T b)
 itself b = record { to = λ h. h; back = λ h. h }
@@ -56,13 +52,6 @@ found-says {f = f} o s = record {
   back = λ h. given-T f o (h .0) (h .1) (s (h .0) (h .1) .back (h .2));
 }
 
--- a test by letter of a record whose letter is known
-pub says-of-letter : (sh : Sheet) (i : ℕ) (l : Letter) → byte sh i 0 ≡ code l → (f : Letter → Bool) →
-    Says (by-letter (record-at sh i) f) (T (f l))
-says-of-letter sh i l e f =
-    let s = says-by-letter sh i f (λ r m. T (f m)) (λ m. itself (f m)) in
-    record { to = λ h. at-letter sh (λ r m. T (f m)) i l e (s .to h); back = λ h. s .back (l, e, h) }
-
 -- SETS
 
 -- no member from n on
@@ -93,7 +82,10 @@ says-symbols [] [] = record { to = λ h. refl; back = λ e. tt }
 says-symbols [] (y ∷ ys) = record { to = λ h. absurd h; back = λ e. let long = ap length e in absurd (omega arith) }
 says-symbols (x ∷ xs) [] = record { to = λ h. absurd h; back = λ e. let long = ap length e in absurd (omega arith) }
 says-symbols (x ∷ xs) (y ∷ ys) =
-    says-as (λ h. ap₂ {C = List Symbol} (λ z zs. z ∷ zs) (h .0) (h .1)) (λ e. (cc, cc)) (both (symbols-same x y) (says-symbols xs ys))
+    says-as
+    (λ h. ap₂ {C = List Symbol} (λ z zs. z ∷ zs) (h .0) (h .1))
+    (λ e. (cc, cc))
+    (both (symbols-same x y) (says-symbols xs ys))
 
 ends-own : (zs xs : List Symbol) → T (ends xs (zs ++ xs))
 ends-own zs xs =

@@ -68,7 +68,8 @@ symbol-in-range b (inr (low, high)) =
     let lt : b - 64 < nonterminals = omega arith in
     subst InRange (sym e) lt
 
-pub symbols-in-range : (r : List ℕ) (n : ℕ) → ((k : ℕ) → k < n → SymbolByte (at r (8 + k))) → Every InRange (symbols r n)
+pub symbols-in-range : (r : List ℕ) (n : ℕ) → ((k : ℕ) → k < n → SymbolByte (at r (8 + k))) →
+    Every InRange (symbols r n)
 symbols-in-range r n h = every-gather InRange n _ (λ k lt. symbol-in-range _ (h k lt))
 
 pub no-symbols : (r : List ℕ) (n : ℕ) → n ≡ 0 → symbols r n ≡ []

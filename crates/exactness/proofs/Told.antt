@@ -78,7 +78,7 @@ module _ (sh : Sheet) where
 
 pub verdict-tells-first : Verdict-tells-first
 verdict-tells-first sh x = (
-  λ e. tells-either (opening-passes sh) (checking-passes sh) x (go (or-some (opening sh) (told (checking-passes sh)) x (sym (verdict-is sh) ∙ e))),
+  λ e. tells-either (opening-passes sh) (checking-passes sh) x (go (or-some _ _ x (sym (verdict-is sh) ∙ e))),
   λ h. back (either-tells (opening-passes sh) (checking-passes sh) x h),
 )
   where
@@ -87,7 +87,9 @@ verdict-tells-first sh x = (
     go (inl e) = inl (opening-tells-first sh x .0 e)
     go (inr (o, e)) = inr (opening-clean sh o, tells-first (checking-passes sh) (checking-named sh) .1 x .0 e)
 
-    back : Tells (opening-passes sh) x ⊎ (AllClean (opening-passes sh) × Tells (checking-passes sh) x) → verdict sh ≡ Some x
+    back : Tells (opening-passes sh) x ⊎ (AllClean (opening-passes sh) × Tells (checking-passes sh) x) →
+        verdict sh ≡ Some x
     back (inl h) = verdict-is sh ∙ some-or _ _ x (opening-tells-first sh x .1 h)
     back (inr (c, h)) =
-        verdict-is sh ∙ none-or _ _ (clean-opening sh c) ∙ tells-first (checking-passes sh) (checking-named sh) .1 x .1 h
+        verdict-is sh ∙ none-or _ _ (clean-opening sh c)
+        ∙ tells-first (checking-passes sh) (checking-named sh) .1 x .1 h
