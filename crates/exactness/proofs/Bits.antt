@@ -8,7 +8,7 @@ use native.Mathlib.Omega.{arith}
 use lib.Pow.{pow-pos, shr-shr}
 use Rattle.std.proofs.shelf.Bits.{pow-below}
 use lib.Bits.{bitAnd, bitOr, and-step, or-step, and-shr, or-shr, and-comm}
-use lib.Dec.{T, eqb, eqb→eq, ltb}
+use lib.Dec.{T, eqb, eqb→eq}
 use Rattle.std.proofs.shelf.Tests.{cases-lt, cases-eq, eq-eqb}
 use Rattle.table.specs.Lawful.{narrow}
 use Rattle.table.specs.Hints.{Set, _∈_}
@@ -16,7 +16,7 @@ use Rattle.layout.specs.Choices.{below}
 use Rattle.layout.specs.Checking.{subset, same-test}
 use Rattle.layout.specs.Records.{Format, sixteen, member}
 use Rattle.wellformed.proofs.Says.{Says, both, either, less, equal, all-below}
-use Rattle.wellformed.proofs.Tests.{eq-T, T-and, T-or}
+use Rattle.wellformed.proofs.Tests.{eq-T}
 use Rattle.exactness.proofs.Sets.{itself, says-as, one-test, says-same, Bounded, says-subset}
 
 -- bit x of a set

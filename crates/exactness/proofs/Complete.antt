@@ -1,9 +1,9 @@
 -- The completeness tests of a well-formed sheet pass exactly where its table is complete under its hints.
 use mathlib.Core.Path.{_≡_, refl, sym, ap, subst, subst₂, _∙_}
 use mathlib.Core.List.{List, [], _∷_}
-use mathlib.Core.Bool.{Bool, true, false, cond, _&&_, _||_}
+use mathlib.Core.Bool.{Bool, true, false, cond, _&&_}
 use mathlib.Core.Logic.{_⊎_, inl, inr, _↔_, _≢_}
-use Prim.Native.Nat.{ℕ, zero, suc, _+_, _≤_, _<_}
+use Prim.Native.Nat.{ℕ, zero, suc, _≤_, _<_}
 use native.Mathlib.Omega.{arith}
 use lib.Dec.{T, eqb, eqb→eq, eqb-refl, lit<}
 use lib.ListN.{length, drop}
@@ -15,15 +15,15 @@ use Rattle.syntax.specs.Grammar.{Rule, Grammar, start, terminals, InRange, Ever
 use Rattle.table.specs.declared.Action.{Action}
 use Rattle.table.specs.declared.Action.the-variants.{Shift, Reduce, Accept, Reject}
 use Rattle.table.specs.Automaton.{decide}
-use Rattle.table.specs.Hints.{Set, _∈_, _⊆_, Occupied, added, right-of, right-side, Behind}
+use Rattle.table.specs.Hints.{Set, _∈_, _⊆_, added, right-of, right-side, Behind}
 use Rattle.table.specs.Completeness.{nullable-symbol, first-symbol, nullable-all, first-of, wanted, Item, OneDotOn, SomeRight, Complete}
 use Rattle.layout.specs.declared.Letter.{Letter}
 use Rattle.layout.specs.declared.Letter.the-variants.{A, D, G, I, K, N, P, S}
-use Rattle.layout.specs.Choices.{given, mapped, implies}
+use Rattle.layout.specs.Choices.{given, mapped}
 use Rattle.layout.specs.Records.{Sheet, count, record-at, byte, code, set-in, rule-in}
 use Rattle.layout.specs.Meaning.{placed, automaton, hints}
 use Rattle.layout.specs.Opening.{has-letter}
-use Rattle.layout.specs.Checking.{subset, reduces-by, accepts, shifts-to, is-rule-of, some-right, equations-hold, items-closed, one-dot-on, item-complete, item-at, complete-as, initial-item}
+use Rattle.layout.specs.Checking.{reduces-by, accepts, shifts-to, is-rule-of, some-right, equations-hold, items-closed, one-dot-on, item-complete, item-at, complete-as, initial-item}
 use Rattle.wellformed.specs.Formed.{Formed}
 use Rattle.wellformed.proofs.Tests.{eq-T, T-and, and-T, T-or, none-some, some-same, T-present, given-T}
 use Rattle.wellformed.proofs.Says.{Says, both, if-so, split, equal, all-below, one-below}

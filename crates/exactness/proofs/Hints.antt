@@ -1,24 +1,23 @@
 -- The hints of a well-formed sheet are in place together with its table.
-use mathlib.Core.Path.{_≡_, refl, sym, ap, subst, _∙_}
+use mathlib.Core.Path.{_≡_, refl, sym, subst}
 use mathlib.Core.List.{List, [], _∷_}
 use mathlib.Core.Bool.{Bool, true, false, cond}
-use mathlib.Core.Logic.{_⊎_, inl, inr, ⊎-elim}
-use Prim.Native.Nat.{ℕ, zero, suc, _+_, _-_, _%_, _^_, _≤_, _<_}
+use mathlib.Core.Logic.{_⊎_, inl, inr}
+use Prim.Native.Nat.{ℕ, zero, suc, _-_, _≤_, _<_}
 use native.Mathlib.Omega.{arith}
-use lib.Dec.{T, eqb, eqb→eq}
+use lib.Dec.{T, eqb}
 use lib.ListN.{length}
-use Rattle.std.proofs.shelf.Tests.{cases-eq}
 use Rattle.std.specs.declared.option.Option.{Option}
 use Rattle.std.specs.declared.option.Option.the-variants.{Some, None}
 use Rattle.syntax.specs.declared.Symbol.{Symbol}
 use Rattle.syntax.specs.declared.Symbol.the-variants.{Terminal, Nonterminal}
-use Rattle.syntax.specs.Grammar.{Rule, start, terminals, nonterminals, Kind, InRange, Every, Present}
+use Rattle.syntax.specs.Grammar.{Rule, start, terminals, nonterminals, Kind, InRange, Every}
 use Rattle.table.specs.Lawful.{State}
 use Rattle.table.specs.Hints.{Set, _∈_, Known, deepest, added, right-of, right-side, PastSet, LookAhead, HintsLawful}
 use Rattle.layout.specs.declared.Letter.{Letter}
 use Rattle.layout.specs.declared.Letter.the-variants.{G, I, K, N, P, S}
-use Rattle.layout.specs.Choices.{given, mapped, present}
-use Rattle.layout.specs.Records.{Sheet, count, record-at, at, byte, code, payload, set-in, maybe-symbol, symbols}
+use Rattle.layout.specs.Choices.{given, mapped}
+use Rattle.layout.specs.Records.{Sheet, record-at, byte, set-in, symbols}
 use Rattle.layout.specs.Meaning.{placed, automaton, hints}
 use Rattle.layout.specs.Opening.{right-length}
 use Rattle.wellformed.specs.Formed.{Has, HasSymbol, IfAny, InRangeOf, Formed}

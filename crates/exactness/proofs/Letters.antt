@@ -11,7 +11,7 @@ use Rattle.layout.specs.Meaning.{placed}
 use Rattle.layout.specs.Opening.{by-letter}
 use Rattle.wellformed.specs.Formed.{Sorted}
 use Rattle.wellformed.proofs.Says.{Says}
-use Rattle.wellformed.proofs.Rows.{Row, Known, known, second, third, says-by-letter, at-letter}
+use Rattle.wellformed.proofs.Rows.{Row, known, second, third, says-by-letter, at-letter}
 use Rattle.exactness.proofs.Sets.{itself}
 
 -- record i is found by its own key, under this letter

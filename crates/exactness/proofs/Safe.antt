@@ -1,34 +1,32 @@
 -- The safety tests of a well-formed sheet pass exactly where its table is safe under its hints.
 use mathlib.Core.Path.{_≡_, refl, sym, ap, subst, subst₂, _∙_}
 use mathlib.Core.List.{List, [], _∷_}
-use mathlib.Core.Bool.{Bool, true, false, _&&_, not}
-use mathlib.Core.Logic.{_⊎_, inl, inr, _↔_}
+use mathlib.Core.Logic.{inl, inr, _↔_}
 use Prim.Native.Nat.{ℕ, _<_}
 use lib.Dec.{T, eqb, eqb→eq}
 use lib.ListN.{length}
-use Rattle.std.specs.declared.option.Option.{Option}
-use Rattle.std.specs.declared.option.Option.the-variants.{Some, None}
+use Rattle.std.specs.declared.option.Option.the-variants.{Some}
 use Rattle.syntax.specs.Grammar.{Rule, start, Every, Present}
 use Rattle.table.specs.declared.Action.{Action}
 use Rattle.table.specs.declared.Action.the-variants.{Shift, Reduce, Accept, Reject}
-use Rattle.table.specs.Automaton.{Automaton, nth}
+use Rattle.table.specs.Automaton.{nth}
 use Rattle.table.specs.Lawful.{Lawful}
-use Rattle.table.specs.Hints.{Set, _∈_, Hints, trail, shadow}
+use Rattle.table.specs.Hints.{Set, _∈_, trail, shadow}
 use Rattle.table.specs.Safety.{Ends, Covers, Edge, Reduces, AllGo, GotosAt, Alone, Safe}
 use Rattle.layout.specs.declared.Letter.{Letter}
 use Rattle.layout.specs.declared.Letter.the-variants.{A, D, G, I, K, N, P, S}
-use Rattle.layout.specs.Choices.{given, mapped, present}
-use Rattle.layout.specs.Records.{Sheet, count, record-at, byte, action-in}
-use Rattle.layout.specs.Meaning.{placed, automaton, hints}
-use Rattle.layout.specs.Checking.{subset, edge-safe, all-go, rule-safe, reduce-safe, initial-alone, accept-safe, action-safe, safe-as}
+use Rattle.layout.specs.Choices.{given, mapped}
+use Rattle.layout.specs.Records.{Sheet, record-at, byte, action-in}
+use Rattle.layout.specs.Meaning.{automaton, hints}
+use Rattle.layout.specs.Checking.{edge-safe, all-go, rule-safe, reduce-safe, initial-alone, accept-safe, action-safe, safe-as}
 use Rattle.wellformed.specs.Formed.{Formed}
-use Rattle.wellformed.proofs.Tests.{eq-T, T-and, and-T, T-given, given-T, some-same}
+use Rattle.wellformed.proofs.Tests.{eq-T, T-and, and-T, some-same}
 use Rattle.wellformed.proofs.Says.{Says, both, never, equal, there, is-symbol}
 use Rattle.wellformed.proofs.Rows.{Row}
 use Rattle.wellformed.proofs.Lawful.{action-row, default-row, goto-row, reject-shift, reject-reduce, reject-accept, lawful}
 use Rattle.exactness.proofs.Bits.{member-fits}
 use Rattle.exactness.proofs.Symbols.{every-nth}
-use Rattle.exactness.proofs.Sets.{itself, says-as, found-says, Bounded, says-members, says-subset, says-covers, says-ends}
+use Rattle.exactness.proofs.Sets.{says-as, found-says, Bounded, says-members, says-subset, says-covers, says-ends}
 use Rattle.exactness.proofs.Letters.{EachRecord, OwnKey, passed-at, each-passes}
 use Rattle.exactness.proofs.Hints.{past-sets-are}
 

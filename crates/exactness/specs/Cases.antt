@@ -3,10 +3,8 @@ use mathlib.Core.Path.{_≡_}
 use mathlib.Core.List.{List, [], _∷_, _++_}
 use Prim.Native.Nat.{ℕ}
 use lib.ListN.{take}
-use Rattle.std.specs.declared.option.Option.{Option}
 use Rattle.std.specs.declared.option.Option.the-variants.{Some, None}
 use Rattle.layout.specs.declared.Letter.the-variants.{P, S}
-use Rattle.layout.specs.declared.Refusal.{Refusal}
 use Rattle.layout.specs.declared.Refusal.the-variants.{Length, Unsafe, Incomplete}
 use Rattle.layout.specs.Records.{sheet}
 use Rattle.layout.specs.Practice.{row, no-symbols, default, goto, item, past, nonterminal, joined, actions, items, pasts, productions, states, practice-bytes, Case, case}
