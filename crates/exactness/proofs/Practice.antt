@@ -11,7 +11,7 @@ use Rattle.exactness.specs.Cases.{Cases-hold}
 
 pub cases-hold : Cases-hold
 unfolding verdict first below some-below every gather run count record-at key payload member placed same-symbols covers
-cases-hold = (refl, (refl, (refl, (refl, (refl, (refl, (refl, (refl, (refl, (refl, (refl, (refl, (refl, tt)))))))))))))
+cases-hold = (refl, (refl, (refl, (refl, (refl, (refl, (refl, (refl, (refl, (refl, (refl, (refl, (refl, (refl, tt))))))))))))))
 
 pub practice-passes : isSome (verdict (sheet practice-bytes)) ≡ false
 practice-passes = ap isSome (cases-hold .0)

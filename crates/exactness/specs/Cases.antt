@@ -7,7 +7,7 @@ use Rattle.std.specs.declared.option.Option.the-variants.{Some, None}
 use Rattle.layout.specs.declared.Letter.the-variants.{P, S}
 use Rattle.layout.specs.declared.Refusal.the-variants.{Length, Unsafe, Incomplete}
 use Rattle.layout.specs.Records.{sheet}
-use Rattle.layout.specs.Practice.{row, no-symbols, default, goto, item, past, nonterminal, joined, actions, items, pasts, productions, states, practice-bytes, Case, case}
+use Rattle.layout.specs.Practice.{row, no-symbols, act, default, goto, item, past, nonterminal, joined, actions, items, pasts, productions, states, practice-bytes, Case, case}
 use Rattle.layout.specs.Checking.{verdict}
 
 -- the practice sheet with other actions, gotos, items, past sets and nonterminals
@@ -25,15 +25,20 @@ with-pasts sets = near actions (goto 0 0 1) items sets (nonterminal 0 1 2)
 abbrev pub first-items : List ℕ
 first-items = joined (item 0 0 0 3 ∷ item 0 1 0 3 ∷ item 0 254 0 1 ∷ item 1 1 1 3 ∷ item 1 254 1 1 ∷ [])
 
+-- state 2 reduces before a word instead of by default
+abbrev pub reduces-before-words : List ℕ
+reduces-before-words =
+    joined (actions ∷ act 2 1 2 1 ∷ default 0 0 ∷ goto 0 0 1 ∷ items ∷ pasts ∷ nonterminal 0 1 2 ∷ productions ∷ states ∷ [])
+
 abbrev pub cases : List Case
 cases =
     case practice-bytes None
     ∷ case (take 319 practice-bytes) (Some Length)
-    -- without its item of state 2, the shift to that state is one that the item before loses
+    -- without the item of state 2, into which the item before a word shifts
     ∷ case (with-items first-items) (Some (Incomplete 8))
     -- without its goto, the default reduction of state 0 slips
     ∷ case (near actions [] items pasts (nonterminal 0 1 2)) (Some (Unsafe 2))
-    -- state 1 below state 2, at the far depth too: it has no goto
+    -- at the far depth below state 2 also state 1, which has no goto
     ∷ case (with-pasts (past 1 0 1 ++ past 2 0 2 ++ past 2 1 3)) (Some (Unsafe 3))
     -- state 2 below the accepting state
     ∷ case (with-pasts (past 1 0 5 ++ past 2 0 2 ++ past 2 1 1)) (Some (Unsafe 0))
@@ -49,6 +54,8 @@ cases =
     ∷ case (with-items []) (Some (Incomplete 14))
     -- no actions: the item before a word has no shift
     ∷ case (near [] (goto 0 0 1) items pasts (nonterminal 0 1 2)) (Some (Incomplete 6))
+    -- state 2 does not reduce before END, as its item asks
+    ∷ case reduces-before-words (Some (Incomplete 10))
     -- the smallest sheet that opens
     ∷ case (nonterminal 0 1 0 ++ row P 0 0 0 0 0 no-symbols ++ row S 0 0 0 255 0 no-symbols) (Some (Incomplete 3))
     ∷ []
