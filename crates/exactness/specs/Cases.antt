@@ -10,25 +10,29 @@ use Rattle.layout.specs.Records.{sheet}
 use Rattle.layout.specs.Practice.{row, no-symbols, act, default, goto, item, past, nonterminal, joined, actions, items, pasts, productions, states, practice-bytes, Case, case}
 use Rattle.layout.specs.Checking.{verdict}
 
--- the practice sheet with other actions, gotos, items, past sets and nonterminals
-abbrev pub near : List ℕ → List ℕ → List ℕ → List ℕ → List ℕ → List ℕ
-near acts gotos its sets names =
-    joined (acts ∷ default 0 0 ∷ default 2 1 ∷ gotos ∷ its ∷ sets ∷ names ∷ productions ∷ states ∷ [])
+-- actions, default reductions and gotos
+abbrev pub moves : List ℕ
+moves = joined (actions ∷ default 0 0 ∷ default 2 1 ∷ goto 0 0 1 ∷ [])
+
+-- the practice sheet with other moves, items, past sets and nonterminals
+abbrev pub near : List ℕ → List ℕ → List ℕ → List ℕ → List ℕ
+near ms its sets names = joined (ms ∷ its ∷ sets ∷ names ∷ productions ∷ states ∷ [])
+
+abbrev pub with-moves : List (List ℕ) → List ℕ
+with-moves ms = near (joined ms) items pasts (nonterminal 0 1 2)
 
 abbrev pub with-items : List ℕ → List ℕ
-with-items its = near actions (goto 0 0 1) its pasts (nonterminal 0 1 2)
+with-items its = near moves its pasts (nonterminal 0 1 2)
 
 abbrev pub with-pasts : List ℕ → List ℕ
-with-pasts sets = near actions (goto 0 0 1) items sets (nonterminal 0 1 2)
+with-pasts sets = near moves items sets (nonterminal 0 1 2)
+
+abbrev pub with-firsts : ℕ → List ℕ
+with-firsts set = near moves items pasts (nonterminal 0 1 set)
 
 -- the items of states 0 and 1
 abbrev pub first-items : List ℕ
 first-items = joined (item 0 0 0 3 ∷ item 0 1 0 3 ∷ item 0 254 0 1 ∷ item 1 1 1 3 ∷ item 1 254 1 1 ∷ [])
-
--- state 2 reduces before a word instead of by default
-abbrev pub reduces-before-words : List ℕ
-reduces-before-words =
-    joined (actions ∷ act 2 1 2 1 ∷ default 0 0 ∷ goto 0 0 1 ∷ items ∷ pasts ∷ nonterminal 0 1 2 ∷ productions ∷ states ∷ [])
 
 abbrev pub cases : List Case
 cases =
@@ -37,7 +41,7 @@ cases =
     -- without the item of state 2, into which the item before a word shifts
     ∷ case (with-items first-items) (Some (Incomplete 8))
     -- without its goto, the default reduction of state 0 slips
-    ∷ case (near actions [] items pasts (nonterminal 0 1 2)) (Some (Unsafe 2))
+    ∷ case (with-moves (actions ∷ default 0 0 ∷ default 2 1 ∷ [])) (Some (Unsafe 2))
     -- at the far depth below state 2 also state 1, which has no goto
     ∷ case (with-pasts (past 1 0 1 ++ past 2 0 2 ++ past 2 1 3)) (Some (Unsafe 3))
     -- state 2 below the accepting state
@@ -45,17 +49,17 @@ cases =
     -- no set at the depth to which state 2 reduces
     ∷ case (with-pasts (past 1 0 1 ++ past 2 0 2)) (Some (Unsafe 3))
     -- a solution of the first equations that is not the least
-    ∷ case (near actions (goto 0 0 1) items pasts (nonterminal 0 1 6)) None
+    ∷ case (with-firsts 6) None
     -- no solution: a word begins a list
-    ∷ case (near actions (goto 0 0 1) items pasts (nonterminal 0 1 0)) (Some (Incomplete 14))
+    ∷ case (with-firsts 0) (Some (Incomplete 14))
     -- a whole text read in state 2, which does not accept
     ∷ case (with-items (items ++ item 2 254 1 1)) (Some (Incomplete 11))
     -- no items, and so none by which a reading begins
     ∷ case (with-items []) (Some (Incomplete 14))
     -- no actions: the item before a word has no shift
-    ∷ case (near [] (goto 0 0 1) items pasts (nonterminal 0 1 2)) (Some (Incomplete 6))
-    -- state 2 does not reduce before END, as its item asks
-    ∷ case reduces-before-words (Some (Incomplete 10))
+    ∷ case (with-moves (default 0 0 ∷ default 2 1 ∷ goto 0 0 1 ∷ [])) (Some (Incomplete 6))
+    -- state 2 reduces before a word alone, and its item asks it before END too
+    ∷ case (with-moves (actions ∷ act 2 1 2 1 ∷ default 0 0 ∷ goto 0 0 1 ∷ [])) (Some (Incomplete 10))
     -- the smallest sheet that opens
     ∷ case (nonterminal 0 1 0 ++ row P 0 0 0 0 0 no-symbols ++ row S 0 0 0 255 0 no-symbols) (Some (Incomplete 3))
     ∷ []
