@@ -41,6 +41,24 @@ grammar-of sh = automaton sh .grammar
 abbrev looks : Sheet → ℕ → ℕ → ℕ → Set
 looks sh = hints sh .look-aheads
 
+module _ (sh : Sheet) where
+  -- the equations of a nonterminal hold
+  abbrev Solved : ℕ → Type 0
+  Solved n =
+      ((n ∈ hints sh .nullable) ↔ SomeRight (grammar-of sh) n (λ α. T (nullable-all (hints sh) α)))
+      × ((a : ℕ) → (a ∈ hints sh .firsts n) ↔ SomeRight (grammar-of sh) n (λ α. a ∈ first-of (hints sh) α))
+
+  -- what is asked of an item, by what stands behind its dot
+  abbrev ItemComplete : ℕ → ℕ → ℕ → List Symbol → Type 0
+  ItemComplete s p d [] =
+      (p ≡ added → 0 ∈ looks sh s p d → decide (automaton sh) s 0 ≡ Accept)
+      × (p ≢ added → (a : ℕ) → a ∈ looks sh s p d → decide (automaton sh) s a ≡ Reduce p)
+  ItemComplete s p d (Terminal b ∷ β) = (t : ℕ) × (decide (automaton sh) s b ≡ Shift t) × OneDotOn (hints sh) s p d t
+  ItemComplete s p d (Nonterminal n ∷ β) =
+      ((q : ℕ) (r : Rule) → grammar-of sh q ≡ Some r → r .left ≡ n →
+      wanted (hints sh) β (looks sh s p d) ⊆ looks sh s q 0)
+      × ((t : ℕ) → automaton sh .goto s n ≡ Some t → OneDotOn (hints sh) s p d t)
+
 -- WHAT THE TESTS OF AN ACTION SAY
 
 says-reduces : (p : ℕ) (x : Action) → Says (reduces-by p x) (x ≡ Reduce p)
@@ -173,12 +191,7 @@ module _ (sh : Sheet) (w : Formed sh) where
 
   -- THE EQUATIONS OF A NONTERMINAL
 
-  abbrev Solved : ℕ → Type 0
-  Solved n =
-      ((n ∈ hints sh .nullable) ↔ SomeRight (grammar-of sh) n (λ α. T (nullable-all (hints sh) α)))
-      × ((a : ℕ) → (a ∈ hints sh .firsts n) ↔ SomeRight (grammar-of sh) n (λ α. a ∈ first-of (hints sh) α))
-
-  says-equations : (n : ℕ) → Says (equations-hold sh n) (Solved n)
+  says-equations : (n : ℕ) → Says (equations-hold sh n) (Solved sh n)
   says-equations n =
       let says-first : (a : ℕ) → Says _ _ =
       λ a. says-same (itself (hints sh .firsts n a)) (says-right n (λ α. first-of (hints sh) α a))
@@ -194,7 +207,7 @@ module _ (sh : Sheet) (w : Formed sh) where
       (all-below terminals says-first))
 
   -- a number that is no nonterminal is in nothing
-  solved-unknown : (n : ℕ) → (n ∈ hints sh .known → ⊥) → Solved n
+  solved-unknown : (n : ℕ) → (n ∈ hints sh .known → ⊥) → Solved sh n
   solved-unknown n other = (
     (λ h. absurd (other (hints-lawful sh w .nullable-names n h)), λ r. absurd (no-right _ r)),
     λ a. (λ h. absurd (other (hints-lawful sh w .first-names n a h)), λ r. absurd (no-right _ r)),
@@ -209,17 +222,6 @@ module _ (sh : Sheet) (w : Formed sh) where
   module _ (s p d : ℕ) where
     abbrev Looks : Set
     Looks = looks sh s p d
-
-    -- what is asked of an item, by what stands behind its dot
-    abbrev ItemComplete : List Symbol → Type 0
-    ItemComplete [] =
-        (p ≡ added → 0 ∈ Looks → decide (automaton sh) s 0 ≡ Accept)
-        × (p ≢ added → (a : ℕ) → a ∈ Looks → decide (automaton sh) s a ≡ Reduce p)
-    ItemComplete (Terminal b ∷ β) = (t : ℕ) × (decide (automaton sh) s b ≡ Shift t) × OneDotOn (hints sh) s p d t
-    ItemComplete (Nonterminal n ∷ β) =
-        ((q : ℕ) (r : Rule) → grammar-of sh q ≡ Some r → r .left ≡ n →
-        wanted (hints sh) β Looks ⊆ looks sh s q 0)
-        × ((t : ℕ) → automaton sh .goto s n ≡ Some t → OneDotOn (hints sh) s p d t)
 
     says-one-on : (t : ℕ) → Says (one-dot-on sh p d Looks t) (OneDotOn (hints sh) s p d t)
     says-one-on t = says-subset terminals Looks _ (looks-bounded s p d)
@@ -238,7 +240,7 @@ module _ (sh : Sheet) (w : Formed sh) where
         (all-below (count sh) (λ i. if-so (is-rule-of sh n i)
         (says-subset terminals (wanted (hints sh) β Looks) _ (wanted-bounded β Looks fit (looks-bounded s p d)))))
 
-    says-item : (γ : List Symbol) → Every InRange γ → Says (item-complete sh s p d Looks γ) (ItemComplete γ)
+    says-item : (γ : List Symbol) → Every InRange γ → Says (item-complete sh s p d Looks γ) (ItemComplete sh s p d γ)
     says-item [] fit =
         split (equal p added) (if-so (Looks 0) (says-accepts (decide (automaton sh) s 0)))
         (says-members terminals Looks (looks-bounded s p d) (λ a. says-reduces p (decide (automaton sh) s a)))
@@ -257,10 +259,10 @@ module _ (sh : Sheet) (w : Formed sh) (passed : EachRecord sh (complete-as sh)) 
   complete-at : (l : Letter) (a b c i : ℕ) → Row sh l a b c i → T (complete-as sh (record-at sh i) l)
   complete-at = passed-at sh (complete-as sh) passed
 
-  solved : (n : ℕ) → Solved sh w n
+  solved : (n : ℕ) → Solved sh n
   solved n = go (placed sh N n 0 0) refl
     where
-      go : (o : Option ℕ) → placed sh N n 0 0 ≡ o → Solved sh w n
+      go : (o : Option ℕ) → placed sh N n 0 0 ≡ o → Solved sh n
       go None e =
           solved-unknown sh w n (λ h. let (i, some) = T-present (placed sh N n 0 0) h in none-some (sym e ∙ some))
       go (Some i) e =
@@ -268,7 +270,7 @@ module _ (sh : Sheet) (w : Formed sh) (passed : EachRecord sh (complete-as sh)) 
           says-equations sh w n .to (subst (λ k. T (equations-hold sh k)) (r .is-1) (complete-at N n 0 0 i r))
 
   item-passed : (s p d : ℕ) (γ : List Symbol) → Item (hints sh) s p d → Behind (grammar-of sh) p d γ →
-      ItemComplete sh w s p d γ
+      ItemComplete sh s p d γ
   item-passed s p d γ (a, h) (α, e, is) =
       let (i, r, k) = look-row sh s p d a h in
       let test = with-key sh I s p d i r (λ x y z. T (item-at sh x y z)) (complete-at I s p d i r) in
@@ -299,7 +301,7 @@ row-item sh w wide s p d i r =
 
 module _ (sh : Sheet) (w : Formed sh) (c : Complete (automaton sh) (hints sh)) where
   item-holds : (s p d : ℕ) (α : List Symbol) → Item (hints sh) s p d → right-side (grammar-of sh) p ≡ Some α →
-      d ≤ length α → (γ : List Symbol) → drop d α ≡ γ → ItemComplete sh w s p d γ
+      d ≤ length α → (γ : List Symbol) → drop d α ≡ γ → ItemComplete sh s p d γ
   item-holds s p d α item e le [] is = (
     λ is-added look.
         let end = dot-at-end d α (added-side (grammar-of sh) p α is-added e) le is in

@@ -5,7 +5,7 @@ use mathlib.Core.Bool.{Bool, true, false}
 use mathlib.Core.Logic.{_↔_}
 use Prim.Native.Nat.{ℕ, _-_, _<_}
 use native.Mathlib.Omega.{arith}
-use lib.Dec.{T, le→leb}
+use lib.Dec.{T, eqb, eqb→eq, eqb-refl, le→leb}
 use lib.ListN.{length, take, drop}
 use Rattle.std.proofs.shelf.Lists.{length-append, take-append-drop, drop-at}
 use Rattle.std.specs.declared.option.Option.{Option}
@@ -67,6 +67,14 @@ says-members n X {f} few s = record {
 
 pub says-subset : (n : ℕ) (X Y : Set) → Bounded n X → Says (subset n X Y) (X ⊆ Y)
 says-subset n X Y few = says-members n X few (λ x. itself (Y x))
+
+-- one state of which the other set is asked
+pub subset-one : (n s : ℕ) (Y : Set) → s < n → Y s ≡ subset n (eqb s) Y
+subset-one n s Y lt =
+    one-test (itself (Y s)) (says-as
+    (λ h. h s (eqb-refl s))
+    (λ h x k. subst (λ z. z ∈ Y) (eqb→eq s x k) h)
+    (says-subset n (eqb s) Y (λ x h. subst (λ z. z < n) (eqb→eq s x h) lt)))
 
 pub says-covers : (n : ℕ) (xs ys : List Set) → Every (Bounded n) ys → Says (covers n xs ys) (Covers xs ys)
 unfolding covers

@@ -2,15 +2,16 @@
 use mathlib.Core.Path.{_≡_, refl, sym, ap, _∙_}
 use mathlib.Core.List.{List, [], _∷_, _++_}
 use mathlib.Core.Logic.{_⊎_, inl, inr}
+use Prim.Native.Nat.{_+_}
 use Rattle.std.specs.declared.option.Option.{Option}
 use Rattle.std.specs.declared.option.Option.the-variants.{Some, None}
 use Rattle.layout.specs.declared.Refusal.{Refusal}
 use Rattle.layout.specs.Refusals.{place}
 use Rattle.layout.specs.Choices.{or-else, first}
-use Rattle.layout.specs.Records.{Sheet}
+use Rattle.layout.specs.Records.{Sheet, count}
 use Rattle.layout.specs.Passes.{Pass, told}
 use Rattle.layout.specs.Opening.{opening, opening-passes}
-use Rattle.layout.specs.Checking.{checking-passes, verdict}
+use Rattle.layout.specs.Checking.{unsafe-refused, incomplete-refused, checking-passes, verdict}
 use Rattle.wellformed.specs.Told.{Tells, AllClean, NamesPlaces}
 use Rattle.wellformed.proofs.Tests.{or-none, none-or, or-some, some-or, unless-some}
 use Rattle.wellformed.proofs.Told.{clean, none-told, tells-first, opening-tells-first}
@@ -19,6 +20,10 @@ use Rattle.exactness.specs.Exactness.{Verdict-tells-first}
 or-twice : {X : Type 0} (a b c : Option X) → or-else a (or-else b c) ≡ or-else (or-else a b) c
 or-twice None b c = refl
 or-twice (Some x) b c = refl
+
+or-nothing : {X : Type 0} (a : Option X) → or-else a None ≡ a
+or-nothing None = refl
+or-nothing (Some x) = refl
 
 -- two rows of passes, one behind the other
 pub told-both : (ps qs : List Pass) → told (ps ++ qs) ≡ or-else (told ps) (told qs)
@@ -60,6 +65,19 @@ module _ (sh : Sheet) where
 
   pub verdict-opens : verdict sh ≡ None → opening sh ≡ None
   verdict-opens e = verdict-none e .0
+
+  -- THE PASSES BEHIND AN OPENING, ONE BY ONE
+
+  pub opening-told : {x : Refusal} → opening sh ≡ Some x → verdict sh ≡ Some x
+  opening-told e = verdict-is ∙ some-or _ _ _ e
+
+  pub unsafe-told : {x : Refusal} → opening sh ≡ None → first (unsafe-refused sh) (count sh) ≡ Some x →
+      verdict sh ≡ Some x
+  unsafe-told opens e = verdict-is ∙ none-or _ _ opens ∙ some-or _ _ _ e
+
+  pub incomplete-told : {o : Option Refusal} → opening sh ≡ None → first (unsafe-refused sh) (count sh) ≡ None →
+      first (incomplete-refused sh) (count sh + 1) ≡ o → verdict sh ≡ o
+  incomplete-told opens safe e = verdict-is ∙ none-or _ _ opens ∙ none-or _ _ safe ∙ or-nothing _ ∙ e
 
   pub checking-named : NamesPlaces (checking-passes sh)
   checking-named = (
