@@ -1,0 +1,10 @@
+pub mod Told
+pub mod Sets
+pub mod Bits
+pub mod Letters
+pub mod Symbols
+pub mod Hints
+pub mod Safe
+pub mod Complete
+pub mod Exact
+pub mod Practice
