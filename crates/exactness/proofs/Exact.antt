@@ -20,7 +20,7 @@ use Rattle.layout.specs.Checking.{safe-as, complete-as, initial-item, checking-
 use Rattle.wellformed.specs.Told.{AllClean}
 use Rattle.wellformed.proofs.Tests.{T-unless, unless-T}
 use Rattle.wellformed.proofs.Says.{Says, split, less}
-use Rattle.wellformed.proofs.Formed.{opens-exactly-formed}
+use Rattle.wellformed.proofs.Formed.{opens-exactly-formed, not-some}
 use Rattle.wellformed.proofs.Lawful.{lawful}
 use Rattle.exactness.specs.Exactness.{Meets, Passes-exactly-the-valid, Passes-in-each-format, Checked-is-valid}
 use Rattle.exactness.proofs.Sets.{itself}
@@ -99,12 +99,8 @@ checked-is-valid sh e =
 
 -- AS A SHEET THAT IS HELD HAS IT
 
-none-there : {X : Type 0} (o : Option X) → isSome o ≡ false → o ≡ None
-none-there None e = refl
-none-there (Some x) e = absurd (false≢true (sym e))
-
 pub valid-of : (bs : List ℕ) → isSome (verdict (sheet bs)) ≡ false → Valid narrow (automaton (sheet bs))
-valid-of bs e = checked-is-valid (sheet bs) (none-there _ e)
+valid-of bs e = checked-is-valid (sheet bs) (not-some _ e)
 
 pub opens-of : (bs : List ℕ) → isSome (verdict (sheet bs)) ≡ false → isSome (opening (sheet bs)) ≡ false
-opens-of bs e = ap isSome (verdict-opens (sheet bs) (none-there _ e))
+opens-of bs e = ap isSome (verdict-opens (sheet bs) (not-some _ e))

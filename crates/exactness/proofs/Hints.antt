@@ -23,7 +23,7 @@ use Rattle.layout.specs.Opening.{right-length}
 use Rattle.wellformed.specs.Formed.{Has, HasSymbol, IfAny, InRangeOf, Formed}
 use Rattle.wellformed.proofs.Tests.{some-same, none-some, mapped-some, T-present, present-T, T-given}
 use Rattle.wellformed.proofs.Rows.{Row, row-of, range-at, placed-row}
-use Rattle.wellformed.proofs.Lawful.{length-gather, rule-row, incoming-row, goto-row, names-at, gap-at, sense-at, has-state}
+use Rattle.wellformed.proofs.Lawful.{length-gather, rule-row, incoming-row, goto-row, names-at, gap-at, sense-at, has-state, one-before}
 use Rattle.exactness.specs.Exactness.{Hints-are-lawful}
 use Rattle.exactness.proofs.Bits.{member-fits, member-low, some-member, member-of-even}
 use Rattle.exactness.proofs.Symbols.{every-map, every-run, length-run, run-none, symbols-in-range, no-symbols}
@@ -40,11 +40,6 @@ side-of-length : (t : Bool) (o : Option Rule) (n : ℕ) →
 side-of-length true o n e = (start ∷ [], refl, some-same e)
 side-of-length false None n e = absurd (none-some e)
 side-of-length false (Some q) n e = (q .right, refl, some-same e)
-
--- the number before
-one-less : (Q : ℕ → Type 0) (m n : ℕ) → m ≡ suc n → (m ≡ 0) ⊎ Q (m - 1) → Q n
-one-less Q m n e (inl z) = absurd (omega arith)
-one-less Q m n e (inr h) = let back : m - 1 ≡ n = omega arith in subst Q back h
 
 module _ (sh : Sheet) where
   pub look-row : (s p d a : ℕ) → a ∈ hints sh .look-aheads s p d →
@@ -102,7 +97,7 @@ module _ (sh : Sheet) (w : Formed sh) where
   known-gapless n h =
       let (i, r) = known-row (suc n) h in
       let gap = gap-at sh w N (suc n) 0 0 i r in
-      known-symbol sh (Nonterminal n) (one-less (λ k. Has sh N k 0) (byte sh i 1) n (r .is-1) gap)
+      known-symbol sh (Nonterminal n) (one-before (λ k. Has sh N k 0) (byte sh i 1) n (r .is-1) gap)
 
   down-to-start : (n : ℕ) → n ∈ hints sh .known → 0 ∈ hints sh .known
   down-to-start zero h = h

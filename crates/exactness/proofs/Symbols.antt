@@ -15,6 +15,7 @@ use Rattle.layout.specs.Choices.{gather, before, run}
 use Rattle.layout.specs.Records.{at, symbol, symbols}
 use Rattle.wellformed.specs.Formed.{SymbolByte}
 use Rattle.wellformed.proofs.Tests.{none-some, some-same}
+use Rattle.wellformed.proofs.Lawful.{every-gather, symbol-in-range}
 
 module _ {X : Type 0} where
   pub every-map : {P Q : X → Type 0} → ((x : X) → P x → Q x) → (xs : List X) → Every P xs → Every Q xs
@@ -30,11 +31,6 @@ module _ {X : Type 0} where
   every-nth Q [] k x h e = absurd (none-some e)
   every-nth Q (y ∷ xs) zero x h e = subst Q (some-same e) (h .0)
   every-nth Q (y ∷ xs) (suc k) x h e = every-nth Q xs k x (h .1) e
-
-  every-gather : (Q : X → Type 0) (n : ℕ) (f : ℕ → X) → ((k : ℕ) → k < n → Q (f k)) → Every Q (gather n f)
-  unfolding gather
-  every-gather Q zero f h = tt
-  every-gather Q (suc n) f h = (h 0 (omega arith), every-gather Q n (λ k. f (suc k)) (λ k lt. h (suc k) (omega arith)))
 
   pub every-run : (Q : X → Type 0) (n : ℕ) (f : ℕ → Option X) → ((k : ℕ) (x : X) → f k ≡ Some x → Q x) →
       Every Q (run n f)
@@ -59,14 +55,6 @@ module _ {X : Type 0} where
   unfolding run
   run-none zero f e = refl
   run-none (suc n) f e = ap (λ o. before o (run n (λ k. f (suc k)))) e
-
-symbol-in-range : (b : ℕ) → SymbolByte b → InRange (symbol b)
-symbol-in-range b (inl (low, high)) =
-    let e : symbol b ≡ Terminal b = grind (arith, tells) in subst InRange (sym e) (low, high)
-symbol-in-range b (inr (low, high)) =
-    let e : symbol b ≡ Nonterminal (b - 64) = grind (arith, tells) in
-    let lt : b - 64 < nonterminals = omega arith in
-    subst InRange (sym e) lt
 
 pub symbols-in-range : (r : List ℕ) (n : ℕ) → ((k : ℕ) → k < n → SymbolByte (at r (8 + k))) →
     Every InRange (symbols r n)

@@ -14,16 +14,12 @@ use Rattle.layout.specs.Opening.{opening, opening-passes}
 use Rattle.layout.specs.Checking.{unsafe-refused, incomplete-refused, checking-passes, verdict}
 use Rattle.wellformed.specs.Told.{Tells, AllClean, NamesPlaces}
 use Rattle.wellformed.proofs.Tests.{or-none, none-or, or-some, some-or, unless-some}
-use Rattle.wellformed.proofs.Told.{clean, none-told, tells-first, opening-tells-first}
+use Rattle.wellformed.proofs.Told.{clean, none-told, tells-first, opening-tells-first, or-itself}
 use Rattle.exactness.specs.Exactness.{Verdict-tells-first}
 
 or-twice : {X : Type 0} (a b c : Option X) → or-else a (or-else b c) ≡ or-else (or-else a b) c
 or-twice None b c = refl
 or-twice (Some x) b c = refl
-
-or-nothing : {X : Type 0} (a : Option X) → or-else a None ≡ a
-or-nothing None = refl
-or-nothing (Some x) = refl
 
 -- two rows of passes, one behind the other
 pub told-both : (ps qs : List Pass) → told (ps ++ qs) ≡ or-else (told ps) (told qs)
@@ -77,7 +73,7 @@ module _ (sh : Sheet) where
 
   pub incomplete-told : {o : Option Refusal} → opening sh ≡ None → first (unsafe-refused sh) (count sh) ≡ None →
       first (incomplete-refused sh) (count sh + 1) ≡ o → verdict sh ≡ o
-  incomplete-told opens safe e = verdict-is ∙ none-or _ _ opens ∙ none-or _ _ safe ∙ or-nothing _ ∙ e
+  incomplete-told opens safe e = verdict-is ∙ none-or _ _ opens ∙ none-or _ _ safe ∙ or-itself _ ∙ e
 
   pub checking-named : NamesPlaces (checking-passes sh)
   checking-named = (

@@ -303,7 +303,7 @@ opens-exactly-formed sh =
 
 -- what the tests of a sheet that is held say
 
-not-some : {X : Type 0} (o : Option X) → isSome o ≡ false → o ≡ None
+pub not-some : {X : Type 0} (o : Option X) → isSome o ≡ false → o ≡ None
 not-some None e = refl
 not-some (Some x) e = absurd (false≢true (sym e))
 

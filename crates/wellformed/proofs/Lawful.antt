@@ -38,12 +38,12 @@ unfolding gather
 length-gather zero f = refl
 length-gather (suc n) f = ap suc (length-gather n (λ k. f (suc k)))
 
-every-gather : {X : Type 0} (Q : X → Type 0) (n : ℕ) (f : ℕ → X) → ((k : ℕ) → k < n → Q (f k)) → Every Q (gather n f)
+pub every-gather : {X : Type 0} (Q : X → Type 0) (n : ℕ) (f : ℕ → X) → ((k : ℕ) → k < n → Q (f k)) → Every Q (gather n f)
 unfolding gather
 every-gather Q zero f h = tt
 every-gather Q (suc n) f h = (h 0 (omega arith), every-gather Q n (λ k. f (suc k)) (λ k lt. h (suc k) (omega arith)))
 
-symbol-in-range : (b : ℕ) → SymbolByte b → InRange (symbol b)
+pub symbol-in-range : (b : ℕ) → SymbolByte b → InRange (symbol b)
 symbol-in-range b (inl (low, high)) =
     let e : symbol b ≡ Terminal b = grind (arith, tells) in subst InRange (sym e) (low, high)
 symbol-in-range b (inr (low, high)) =
@@ -101,7 +101,7 @@ pub reject-accept : Reject ≡ Accept → ⊥
 reject-accept e = let z : _≡_ {A = ℕ} 0 1 = cc in omega arith
 
 -- in a numbering without a gap, the number before suc n is there
-one-before : (Q : ℕ → Type 0) (m n : ℕ) → m ≡ suc n → (m ≡ 0) ⊎ Q (m - 1) → Q n
+pub one-before : (Q : ℕ → Type 0) (m n : ℕ) → m ≡ suc n → (m ≡ 0) ⊎ Q (m - 1) → Q n
 one-before Q m n e (inl z) = absurd (omega arith)
 one-before Q m n e (inr h) = let back : m - 1 ≡ n = omega arith in subst Q back h
 

@@ -98,7 +98,7 @@ err-some (Some y) x e = cc
 pub refused-answer : {o : Option Refusal} {x : Refusal} → o ≡ Some x → Err x ≡ answered o
 refused-answer e = sym (ap answered e)
 
-or-itself : (o : Option Refusal) → or-else o None ≡ o
+pub or-itself : (o : Option Refusal) → or-else o None ≡ o
 or-itself None = refl
 or-itself (Some x) = refl
 
