@@ -60,7 +60,11 @@ pub record LeastAt (f : ℕ → Bool) (n k : ℕ) : Type 0 where
 
 pub least-at : (f : ℕ → Bool) (n : ℕ) → LeastAt f n (least f n)
 unfolding least
-least-at f zero = record { within = omega arith; none-below = λ j lt. absurd (omega arith); hit = λ lt. absurd (omega arith) }
+least-at f zero = record {
+  within = omega arith;
+  none-below = λ j lt. absurd (omega arith);
+  hit = λ lt. absurd (omega arith);
+}
 least-at f (suc n) = go (least f n) (least-at f n) (cases-lt (least f n) n)
   where
     last : (k : ℕ) → LeastAt f n k → k ≡ n → (b : Bool) → f n ≡ b → LeastAt f (suc n) (cond b n (suc n))
@@ -78,7 +82,11 @@ least-at f (suc n) = go (least f n) (least-at f n) (cases-lt (least f n) n)
     go : (k : ℕ) → LeastAt f n k → (k < n) ⊎ (n ≤ k) → LeastAt f (suc n) (cond (ltb k n) k (cond (f n) n (suc n)))
     go k h (inl q) =
         let e : cond (ltb k n) k (cond (f n) n (suc n)) ≡ k = grind (arith, tells) in
-        subst (LeastAt f (suc n)) (sym e) (record { within = omega (arith, h .within); none-below = h .none-below; hit = λ lt. h .hit q })
+        subst (LeastAt f (suc n)) (sym e) (record {
+          within = omega (arith, h .within);
+          none-below = h .none-below;
+          hit = λ lt. h .hit q;
+        })
     go k h (inr q) =
         let same : k ≡ n = omega (arith, h .within) in
         let e : cond (ltb k n) k (cond (f n) n (suc n)) ≡ cond (f n) n (suc n) = grind (arith, tells) in

@@ -58,7 +58,8 @@ module _ (f : Format) (r : List ℕ) where
 
   says-action-bytes : (x t : ℕ) → Says (action-bytes f x t) (ActionBytes f x t)
   says-action-bytes x t =
-      either (either (both (equal x 1) (less t (f .states))) (both (equal x 2) (less t productions))) (both (equal x 3) (equal t 0))
+      either (either (both (equal x 1) (less t (f .states))) (both (equal x 2) (less t productions)))
+      (both (equal x 3) (equal t 0))
 
   abbrev says-state : Says (ltb (at r 1) (f .states)) (at r 1 < f .states)
   says-state = less (at r 1) (f .states)
@@ -119,7 +120,9 @@ module _ (sh : Sheet) (r : List ℕ) where
   says-names D = both (says-has S (at r 1) 0) (says-has P (at r 4) 0)
   says-names G = both (says-has S (at r 1) 0) (both (says-has N (at r 2) 0) (says-has S (at r 4) 0))
   says-names I = both (says-has S (at r 1) 0) (either (equal (at r 2) added) (says-has P (at r 2) 0))
-  says-names K = both (says-has S (at r 1) 0) (all-below (sh .format .states) (λ s. if-so (set-in (sh .format) r s) (says-has S s 0)))
+  says-names K =
+      both (says-has S (at r 1) 0)
+      (all-below (sh .format .states) (λ s. if-so (set-in (sh .format) r s) (says-has S s 0)))
   says-names N = always
   says-names P = both (says-has N (at r 4) 0) (each says-has-symbol (symbols r (at r 5)))
   says-names S = both (if-any says-has-symbol (maybe-symbol (at r 4))) (each says-has-symbol (symbols r (at r 5)))
@@ -175,10 +178,13 @@ module _ (sh : Sheet) where
   sense-says : (i : ℕ) → Says (makes-sense sh (record-at sh i)) (ByLetter sh (MakesSenseAs sh) i)
   sense-says i = says-by-letter sh i _ (MakesSenseAs sh) (says-sense sh (record-at sh i))
 
+  says-order : (i : ℕ) → Says (in-order sh i) ((i ≡ 0) ⊎ (key (record-at sh (i - 1)) < key (record-at sh i)))
+  says-order i = either (equal i 0) (less (key (record-at sh (i - 1))) (key (record-at sh i)))
+
   -- neighbours in order are all in order
   module _ (next : (i : ℕ) → i < count sh → T (in-order sh i)) where
     next-above : (i : ℕ) → i + 1 < count sh → key (record-at sh i) < key (record-at sh (i + 1))
-    next-above i lt = go (either (equal (i + 1) 0) (less (key (record-at sh (i + 1 - 1))) (key (record-at sh (i + 1)))) .to (next (i + 1) lt))
+    next-above i lt = go (says-order (i + 1) .to (next (i + 1) lt))
       where
         go : (i + 1 ≡ 0) ⊎ (key (record-at sh (i + 1 - 1)) < key (record-at sh (i + 1))) →
             key (record-at sh i) < key (record-at sh (i + 1))
@@ -190,7 +196,7 @@ module _ (sh : Sheet) where
     rising i (suc d) lt =
         let before : key (record-at sh i) < key (record-at sh (i + suc d)) = rising i d (omega arith) in
         let same : i + suc d + 1 ≡ i + suc (suc d) = omega arith in
-        let step : key (record-at sh (i + suc d)) < key (record-at sh (i + suc d + 1)) = next-above (i + suc d) (omega arith) in
+        let step = next-above (i + suc d) (omega arith) in
         let step′ : key (record-at sh (i + suc d)) < key (record-at sh (i + suc (suc d))) = rw same at step in
         omega arith
 
@@ -203,9 +209,9 @@ module _ (sh : Sheet) where
   next-in-order : Sorted sh → (i : ℕ) → i < count sh → T (in-order sh i)
   next-in-order w zero lt = tt
   next-in-order w (suc i) lt =
-      either (equal (suc i) 0) (less (key (record-at sh (suc i - 1))) (key (record-at sh (suc i)))) .back (inr
-      (let back : suc i - 1 ≡ i = omega arith in
-      subst (λ k. key (record-at sh k) < key (record-at sh (suc i))) (sym back) (w .in-order i (suc i) (omega arith) lt)))
+      let back : suc i - 1 ≡ i = omega arith in
+      let above = w .in-order i (suc i) (omega arith) lt in
+      says-order (suc i) .back (inr (subst (λ k. key (record-at sh k) < key (record-at sh (suc i))) (sym back) above))
 
   -- the names pass tests a record, and behind the last that there is one of each kind
   pub names-test : (i : ℕ) → i < count sh →
@@ -253,7 +259,8 @@ module _ (sh : Sheet) where
       let named : (i : ℕ) → i < count sh → ByLetter sh NamesFit i =
       λ i lt. names-say i .to (subst T (names-test i lt) (T-unless _ (Absent i) (names-clean i (omega arith))))
       in
-      let kinds = says-kinds .to (subst T kinds-test (T-unless _ (Absent (count sh)) (names-clean (count sh) (omega arith)))) in
+      let kinds-clean = T-unless _ (Absent (count sh)) (names-clean (count sh) (omega arith)) in
+      let kinds = says-kinds .to (subst T kinds-test kinds-clean) in
       record {
         sorted = to-sorted (length-clean, (records-clean, tt));
         gapless = λ i lt. let (l, e, h) = named i lt in (l, e, h .0);
@@ -323,4 +330,5 @@ few-records bs w = omega (arith, w .length-fits .1)
 
 -- a sheet that is no longer than it may be
 pub short-bytes : (bs : List ℕ) → first (length-refused (sheet bs)) 1 ≡ None → length bs ≤ most-bytes
-short-bytes bs e = says-length (sheet bs) .to (T-unless _ Length (none-first (length-refused (sheet bs)) 1 e 0 (lit< tt))) .1
+short-bytes bs e =
+    says-length (sheet bs) .to (T-unless _ Length (none-first (length-refused (sheet bs)) 1 e 0 (lit< tt))) .1

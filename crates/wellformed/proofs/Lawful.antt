@@ -21,7 +21,7 @@ use Rattle.std.specs.Options.{isSome}
 use Rattle.table.specs.Lawful.{narrow, State, RuleInRange, Lawful}
 use Rattle.layout.specs.declared.Letter.{Letter}
 use Rattle.layout.specs.declared.Letter.the-variants.{A, D, G, P, S}
-use Rattle.layout.specs.Choices.{given, gather}
+use Rattle.layout.specs.Choices.{given, mapped, gather}
 use Rattle.layout.specs.Records.{Sheet, sheet, count, record-at, at, byte, code, no-symbol, symbol, maybe-symbol}
 use Rattle.layout.specs.Records.{symbols, rule-in, action-in}
 use Rattle.layout.specs.Meaning.{placed, automaton}
@@ -168,7 +168,7 @@ module _ (sh : Sheet) (w : Formed sh) where
   -- PRODUCTIONS
 
   pub has-rule : (p : ℕ) → Has sh P p 0 → Present (automaton sh .grammar p)
-  has-rule p (i, e) = (rule-in (record-at sh i), ap (Rattle.layout.specs.Choices.mapped (λ i. rule-in (record-at sh i))) e)
+  has-rule p (i, e) = (rule-in (record-at sh i), ap (mapped (λ i. rule-in (record-at sh i))) e)
 
   pub rule-has : (p : ℕ) → Present (automaton sh .grammar p) → Has sh P p 0
   rule-has p (q, e) = let (i, r, h) = rule-row sh p q e in (i, placed-row sh (w .sorted) P p 0 0 i r)
@@ -201,7 +201,9 @@ module _ (sh : Sheet) (w : Formed sh) where
   first-rule =
       let (i, lt, l) = w .some-production in
       let z = range-at sh (w .sorted) P i lt l .1 .0 in
-      let r : Row sh P (byte sh i 1) 0 0 i = record { within = lt; is-0 = l; is-1 = refl; is-2 = z 0 (omega arith); is-3 = z 1 (omega arith) } in
+      let r : Row sh P (byte sh i 1) 0 0 i =
+      record { within = lt; is-0 = l; is-1 = refl; is-2 = z 0 (omega arith); is-3 = z 1 (omega arith) }
+      in
       has-rule 0 (down-to-0 (byte sh i 1) (i, placed-row sh (w .sorted) P _ 0 0 i r))
 
   -- ACTIONS AND GOTOS

@@ -23,7 +23,7 @@ use Rattle.layout.specs.Opening.{acts-in, right-length}
 use Rattle.wellformed.specs.Formed.{InRangeOf, Sorted}
 use Rattle.wellformed.proofs.Tests.{T-and, and-T, eq-T, T-some}
 use Rattle.wellformed.proofs.Rows.{Row, Known, known, second, third, range-at, row-of, row-number}
-use Rattle.wellformed.proofs.Seeks.{Between, at-position}
+use Rattle.wellformed.proofs.Seeks.{Between, at-position, keys-rise}
 use Rattle.wellformed.proofs.Loops.{some-hit, nth-gather-or}
 use Rattle.wellformed.proofs.Lawful.{length-gather}
 
@@ -65,7 +65,8 @@ module _ (bs : List ℕ) (w : Sorted (sheet bs)) where
       (row-number (sheet bs) A _ _ 0 i r, h .0, h .1 .0)
 
   -- a key is not below its letter's
-  letter-below : (i : ℕ) (lt : i < count (sheet bs)) → code (known (sheet bs) w i lt .which) * 16777216 ≤ key (record-at (sheet bs) i)
+  letter-below : (i : ℕ) (lt : i < count (sheet bs)) →
+      code (known (sheet bs) w i lt .which) * 16777216 ≤ key (record-at (sheet bs) i)
   letter-below i lt = let k = known (sheet bs) w i lt in let e = row-number (sheet bs) _ _ _ _ i (k .row) in omega arith
 
   -- where a state has an action, its first action stands where a search for it ends
@@ -73,17 +74,16 @@ module _ (bs : List ℕ) (w : Sorted (sheet bs)) where
       byte (sheet bs) j 0 ≡ code A → byte (sheet bs) j 1 ≡ s →
       (i < count (sheet bs)) × (byte (sheet bs) i 0 ≡ code A) × (byte (sheet bs) i 1 ≡ s)
   first-action s j i is lt e f =
-      let b : Between (sheet bs) (key-of 65 s 0 0) i i = subst (λ p. Between (sheet bs) (key-of 65 s 0 0) p p) (sym is) (at-position (sheet bs) w (key-of 65 s 0 0)) in
+      let k = key-of 65 s 0 0 in
+      let b = subst (λ p. Between (sheet bs) k p p) (sym is) (at-position (sheet bs) w k) in
       let (key-j, state-j, terminal-j) = action-key j lt e in
       let le : i ≤ j = ⊎-elim (λ (q : j < i). absurd (omega (arith, b .under j q))) (λ q. q) (cases-lt j i) in
       let top : i < count (sheet bs) = omega arith in
       let low : key-of 65 s 0 0 ≤ key (record-at (sheet bs) i) = b .over i (omega arith) top in
-      let high : key (record-at (sheet bs) i) ≤ key (record-at (sheet bs) j) =
-      ⊎-elim (λ (q : i < j). omega (arith, w .in-order i j q lt)) (λ (q : j ≤ i). let same : i ≡ j = omega arith in rw same (omega arith)) (cases-lt i j)
-      in
-      let k = known (sheet bs) w i top in
+      let high = keys-rise (sheet bs) w i j le lt in
+      let own = known (sheet bs) w i top in
       let is-A : byte (sheet bs) i 0 ≡ code A =
-      ⊎-elim (λ q. k .is-letter ∙ ap code q) (λ q. absurd (omega (arith, letter-below i top))) (first-letter (k .which))
+      ⊎-elim (λ q. own .is-letter ∙ ap code q) (λ q. absurd (omega (arith, letter-below i top))) (first-letter (own .which))
       in
       let (key-i, state-i, terminal-i) = action-key i top is-A in
       (top, is-A, omega arith)
@@ -120,13 +120,16 @@ module _ (bs : List ℕ) (p i : ℕ) (e : placed (sheet bs) P p 0 0 ≡ Some i) 
   rule-at : automaton (sheet bs) .grammar p ≡ Some (rule-in (record-at (sheet bs) i))
   rule-at = ap (mapped (λ i. rule-in (record-at (sheet bs) i))) e
 
-  pub head-at : Some (record { left = byte (sheet bs) i 4; length = byte (sheet bs) i 5 }) ≡ head (automaton (sheet bs) .grammar p)
+  pub head-at :
+      Some (record { left = byte (sheet bs) i 4; length = byte (sheet bs) i 5 })
+      ≡ head (automaton (sheet bs) .grammar p)
   head-at =
       ap {B = Option Production} (λ n. Some (record { left = byte (sheet bs) i 4; length = n })) (sym (length-gather _ _))
       ∙ sym (ap head rule-at)
 
   pub symbol-in : (k : ℕ) →
-      cond (ltb k (byte (sheet bs) i 5)) (Some (symbol (byte (sheet bs) i (8 + k)))) None ≡ symbol-at (automaton (sheet bs) .grammar p) k
+      cond (ltb k (byte (sheet bs) i 5)) (Some (symbol (byte (sheet bs) i (8 + k)))) None
+      ≡ symbol-at (automaton (sheet bs) .grammar p) k
   symbol-in k =
       let there : nth (gather (byte (sheet bs) i 5) (λ k. symbol (byte (sheet bs) i (8 + k)))) k
       ≡ cond (ltb k (byte (sheet bs) i 5)) (Some (symbol (byte (sheet bs) i (8 + k)))) None
@@ -135,7 +138,8 @@ module _ (bs : List ℕ) (p i : ℕ) (e : placed (sheet bs) P p 0 0 ≡ Some i) 
       sym (ap (λ o. symbol-at o k) rule-at ∙ there)
 
   pub short-production : Sorted (sheet bs) → byte (sheet bs) i 5 ≤ 8
-  short-production w = let r = row-of (sheet bs) P p 0 0 i e in range-at (sheet bs) w P i (r .within) (r .is-0) .1 .1 .1 .1 .0
+  short-production w =
+      let r = row-of (sheet bs) P p 0 0 i e in range-at (sheet bs) w P i (r .within) (r .is-0) .1 .1 .1 .1 .0
 
 -- the right side of a production that has its record
 pub right-length-at : (bs : List ℕ) (p i : ℕ) → (p ≡ added → ⊥) → placed (sheet bs) P p 0 0 ≡ Some i →
@@ -143,7 +147,8 @@ pub right-length-at : (bs : List ℕ) (p i : ℕ) → (p ≡ added → ⊥) → 
 right-length-at bs p i other e = go (eqb p added) (eqb→eq p added)
   where
     go : (t : Bool) → (T t → p ≡ added) →
-        cond t (Some 1) (given None (λ q. Some (length (q .right))) (automaton (sheet bs) .grammar p)) ≡ Some (byte (sheet bs) i 5)
+        cond t (Some 1) (given None (λ q. Some (length (q .right))) (automaton (sheet bs) .grammar p))
+        ≡ Some (byte (sheet bs) i 5)
     go true h = absurd (other (h tt))
     go false h =
         ap (λ o. given None (λ q. Some (length (q .right))) (mapped (λ i. rule-in (record-at (sheet bs) i)) o)) e

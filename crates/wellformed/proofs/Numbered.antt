@@ -19,7 +19,7 @@ use Rattle.layout.specs.Search.{position, start, starts, index-of, by-number}
 use Rattle.wellformed.specs.Formed.{Has, NoGap, InRangeOf, Sorted, Formed}
 use Rattle.wellformed.proofs.Rows.{Row, Known, known, at-letter, range-at, row-of, row-number, placed-row}
 use Rattle.wellformed.proofs.Rows.{none-placed}
-use Rattle.wellformed.proofs.Seeks.{Between, at-position, letter-range}
+use Rattle.wellformed.proofs.Seeks.{at-position, letter-range, keys-rise}
 use Rattle.wellformed.proofs.Lookups.{digits}
 
 module _ (bs : List ℕ) where
@@ -63,7 +63,8 @@ module _ (bs : List ℕ) (w : Sorted (sheet bs)) where
       let d = digits (record-at (sheet bs) i) (k .which) (k .ranged) in
       (omega arith, omega arith)
 
-  -- a record behind the position of a byte's first key begins with that byte or a higher one, and one before it with a lower
+  -- a record behind the position of a byte's first key begins with that byte or a higher one, one before it with a
+  -- lower
   from-start : (l i : ℕ) (lt : i < count (sheet bs)) → position (sheet bs) (key-of l 0 0 0) ≤ i → l ≤ code-at i lt
   from-start l i lt le =
       omega (arith, at-position (sheet bs) w (key-of l 0 0 0) .over i le lt, own-letter i lt)
@@ -107,22 +108,24 @@ module _ (bs : List ℕ) (w : Sorted (sheet bs)) where
         ⊎-elim (λ q. q) (λ (q : high bs l ≤ i). absurd (omega (arith, last .over i q (r .within)))) (cases-lt i (high bs l)),
       )
 
-  keys-rise : (i j : ℕ) → i ≤ j → j < count (sheet bs) → key (record-at (sheet bs) i) ≤ key (record-at (sheet bs) j)
-  keys-rise i j le lt =
-      ⊎-elim
-      (λ (q : i < j). omega (arith, w .in-order i j q lt))
-      (λ (q : j ≤ i). let same : i ≡ j = omega arith in rw same (omega arith))
-      (cases-lt i j)
-
   -- NUMBERS
 
-  module _ (l : Letter) (block : Block bs l)
-      (numbered : (i : ℕ) → i < count (sheet bs) → byte (sheet bs) i 0 ≡ code l → Row (sheet bs) l (byte (sheet bs) i 1) 0 0 i × (byte (sheet bs) i 1 < 256))
-      (gap : (i : ℕ) → i < count (sheet bs) → byte (sheet bs) i 0 ≡ code l → (byte (sheet bs) i 1 ≡ 0) ⊎ Has (sheet bs) l (byte (sheet bs) i 1 - 1) 0) where
+  -- record i, if it has letter l, has one number in its key, which is a byte
+  abbrev OneNumber : Letter → Type 0
+  OneNumber l = (i : ℕ) → i < count (sheet bs) → byte (sheet bs) i 0 ≡ code l →
+      Row (sheet bs) l (byte (sheet bs) i 1) 0 0 i × (byte (sheet bs) i 1 < 256)
+
+  -- and the number before has its record too
+  abbrev Gapless : Letter → Type 0
+  Gapless l = (i : ℕ) → i < count (sheet bs) → byte (sheet bs) i 0 ≡ code l →
+      (byte (sheet bs) i 1 ≡ 0) ⊎ Has (sheet bs) l (byte (sheet bs) i 1 - 1) 0
+
+  module _ (l : Letter) (block : Block bs l) (numbered : OneNumber l) (gap : Gapless l) where
     row-at : (i : ℕ) → low bs l ≤ i → i < high bs l → Row (sheet bs) l (byte (sheet bs) i 1) 0 0 i
     row-at i a b = numbered i (omega (arith, block .within)) (block .lettered i a b) .0
 
-    number-at : (i : ℕ) → low bs l ≤ i → i < high bs l → key (record-at (sheet bs) i) ≡ key-of (code l) (byte (sheet bs) i 1) 0 0
+    number-at : (i : ℕ) → low bs l ≤ i → i < high bs l →
+        key (record-at (sheet bs) i) ≡ key-of (code l) (byte (sheet bs) i 1) 0 0
     number-at i a b = row-number (sheet bs) l _ 0 0 i (row-at i a b)
 
     -- the number before is at an earlier record of the letter
@@ -142,7 +145,9 @@ module _ (bs : List ℕ) (w : Sorted (sheet bs)) where
             let small = numbered i lt (block .lettered i a b) .1 in
             let ki = number-at i a b in
             let kj = row-number (sheet bs) l (byte (sheet bs) i 1 - 1) 0 0 j r in
-            let less : j < i = ⊎-elim (λ q. q) (λ (q : i ≤ j). absurd (omega (arith, keys-rise i j q (r .within)))) (cases-lt j i) in
+            let less : j < i =
+            ⊎-elim (λ q. q) (λ (q : i ≤ j). absurd (omega (arith, keys-rise (sheet bs) w i j q (r .within)))) (cases-lt j i)
+            in
             (j, in-block l (byte (sheet bs) i 1 - 1) j (omega arith) r .0, less, omega (arith, r .is-1))
 
     -- the record that is d behind the first has number d
@@ -160,7 +165,7 @@ module _ (bs : List ℕ) (w : Sorted (sheet bs)) where
         let rise = w .in-order (low bs l + d) (low bs l + suc d) (omega arith) (omega (arith, block .within)) in
         let (j, le, less, e) = before (low bs l + suc d) (omega arith) lt (λ z. omega arith) in
         let kj = number-at j le (omega arith) in
-        omega (arith, keys-rise j (low bs l + d) (omega arith) (omega (arith, block .within)))
+        omega (arith, keys-rise (sheet bs) w j (low bs l + d) (omega arith) (omega (arith, block .within)))
 
     -- so that a record is found by its number
     pub number-found : (n : ℕ) → low bs l + n < high bs l → placed (sheet bs) l n 0 0 ≡ Some (low bs l + n)
@@ -173,28 +178,25 @@ module _ (bs : List ℕ) (w : Sorted (sheet bs)) where
         none-placed (sheet bs) l n 0 0 (λ i r.
         let (a, b) = in-block l n i small r in
         let at-i : low bs l + (i - low bs l) ≡ i = omega arith in
-        let e : byte (sheet bs) i 1 ≡ i - low bs l = subst (λ k. byte (sheet bs) k 1 ≡ i - low bs l) at-i (number-is (i - low bs l) (omega arith)) in
+        let e = subst (λ k. byte (sheet bs) k 1 ≡ i - low bs l) at-i (number-is (i - low bs l) (omega arith)) in
         omega (arith, r .is-1))
 
 -- NONTERMINALS, PRODUCTIONS, STATES
 
 module _ (bs : List ℕ) (w : Formed (sheet bs)) where
-  abbrev One-number : Letter → Type 0
-  One-number l = (i : ℕ) → i < count (sheet bs) → byte (sheet bs) i 0 ≡ code l →
-      Row (sheet bs) l (byte (sheet bs) i 1) 0 0 i × (byte (sheet bs) i 1 < 256)
-
-  one-number : (l : Letter) → ((r : List ℕ) → InRangeOf sixteen r l → (at r 1 < 256) × (at r 2 ≡ 0) × (at r 3 ≡ 0)) → One-number l
+  one-number : (l : Letter) →
+      ((r : List ℕ) → InRangeOf sixteen r l → (at r 1 < 256) × (at r 2 ≡ 0) × (at r 3 ≡ 0)) → OneNumber bs (w .sorted) l
   one-number l f i lt e =
       let z = f (record-at (sheet bs) i) (range-at (sheet bs) (w .sorted) l i lt e) in
       (record { within = lt; is-0 = e; is-1 = refl; is-2 = z .1; is-3 = z .2 }, z .0)
 
-  nonterminals : One-number N
+  nonterminals : OneNumber bs (w .sorted) N
   nonterminals = one-number N (λ r h. (omega (arith, h .0), h .1 .0 0 (lit< tt), h .1 .0 1 (lit< tt)))
 
-  productions : One-number P
+  productions : OneNumber bs (w .sorted) P
   productions = one-number P (λ r h. (omega (arith, h .0), h .1 .0 0 (lit< tt), h .1 .0 1 (lit< tt)))
 
-  states : One-number S
+  states : OneNumber bs (w .sorted) S
   states = one-number S (λ r h. (omega (arith, h .0), h .1 .0 0 (lit< tt), h .1 .0 1 (lit< tt)))
 
   -- what a look-up by number finds
@@ -203,18 +205,15 @@ module _ (bs : List ℕ) (w : Formed (sheet bs)) where
     pub there : low bs l + n < high bs l → placed (sheet bs) l n 0 0 ≡ Some (low bs l + n)
     pub absent : high bs l ≤ low bs l + n → placed (sheet bs) l n 0 0 ≡ None
 
-  abbrev Gapless : Letter → Type 0
-  Gapless l = (i : ℕ) → i < count (sheet bs) → byte (sheet bs) i 0 ≡ code l →
-      (byte (sheet bs) i 1 ≡ 0) ⊎ Has (sheet bs) l (byte (sheet bs) i 1 - 1) 0
-
-  found-by-number : (l : Letter) → Block bs l → One-number l → Gapless l → (n : ℕ) → n < 256 → Found l n
+  found-by-number : (l : Letter) → Block bs l → OneNumber bs (w .sorted) l → Gapless bs (w .sorted) l → (n : ℕ) → n < 256 → Found l n
   found-by-number l b one gap n small = record {
     within = b .within;
     there = number-found bs (w .sorted) l b one gap n;
     absent = number-absent bs (w .sorted) l b one gap n small;
   }
 
-  gap-of : (l : Letter) (i : ℕ) → i < count (sheet bs) → byte (sheet bs) i 0 ≡ code l → NoGap (sheet bs) (record-at (sheet bs) i) l
+  gap-of : (l : Letter) (i : ℕ) → i < count (sheet bs) → byte (sheet bs) i 0 ≡ code l →
+      NoGap (sheet bs) (record-at (sheet bs) i) l
   gap-of l i lt e = at-letter (sheet bs) (NoGap (sheet bs)) i l e (w .gapless i lt)
 
   pub nonterminal-found : (n : ℕ) → n < 256 → Found N n
@@ -227,7 +226,8 @@ module _ (bs : List ℕ) (w : Formed (sheet bs)) where
   state-found = found-by-number S (state-block bs (w .sorted)) states (gap-of S)
 
   -- a look-up by number is a look-up by key
-  pub by-number-is : (l : Letter) (n : ℕ) → Found l n → by-number (starts (sheet bs)) (index-of l) n ≡ placed (sheet bs) l n 0 0
+  pub by-number-is : (l : Letter) (n : ℕ) → Found l n →
+      by-number (starts (sheet bs)) (index-of l) n ≡ placed (sheet bs) l n 0 0
   by-number-is l n f =
       ⊎-elim
       (λ (q : low bs l + n < high bs l).

@@ -37,12 +37,21 @@ module _ (sh : Sheet) (w : Sorted sh) where
       (⊎-elim (λ (q : j < i). let h = w .in-order j i q top in omega arith) (λ (q : i < j). absurd (omega arith)))
       (cases-order j i)
 
-  pub over-too : (k i : ℕ) → i < count sh → k ≤ key (record-at sh i) → (j : ℕ) → i ≤ j → j < count sh → k ≤ key (record-at sh j)
+  pub over-too : (k i : ℕ) → i < count sh → k ≤ key (record-at sh i) →
+      (j : ℕ) → i ≤ j → j < count sh → k ≤ key (record-at sh j)
   over-too k i top lt j le within =
       ⊎-elim
       (λ (q : j ≡ i). rw q lt)
       (⊎-elim (λ (q : j < i). absurd (omega arith)) (λ (q : i < j). let h = w .in-order i j q within in omega arith))
       (cases-order j i)
+
+  -- keys rise with places
+  pub keys-rise : (i j : ℕ) → i ≤ j → j < count sh → key (record-at sh i) ≤ key (record-at sh j)
+  keys-rise i j le lt =
+      ⊎-elim
+      (λ (q : i < j). omega (arith, w .in-order i j q lt))
+      (λ (q : j ≤ i). let same : i ≡ j = omega arith in rw same (omega arith))
+      (cases-lt i j)
 
   between-least : (k i : ℕ) → Between sh k i i → LeastAt (λ j. leb k (key (record-at sh j))) (count sh) i
   between-least k i b = record {
@@ -65,7 +74,8 @@ module _ (sh : Sheet) (w : Sorted sh) where
         ordered = omega arith;
         within = l .within;
         under = λ j lt. let h = l .none-below j lt in grind (arith, tells);
-        over = λ j le lt. over-too k (position sh k) (omega arith) (let h = l .hit (omega arith) in grind (arith, tells)) j le lt;
+        over = λ j le lt.
+            over-too k (position sh k) (omega arith) (let h = l .hit (omega arith) in grind (arith, tells)) j le lt;
       }
 
   -- a search for any k may begin with all records
