@@ -100,7 +100,7 @@ impl<'a> RawSheet<'a> {
     pub fn practice() -> RawSheet<'a>
         ensures { λ r. ⌜ contents r ≡ practice-bytes ⌝ }
     {
-        raw_sheet(&PRACTICE)
+        raw_sheet(PRACTICE)
     }
 
     /// Puts `bytes` into a place that holds a raw sheet, if they are one; else the place stays as it is.
