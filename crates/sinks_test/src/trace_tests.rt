@@ -18,88 +18,11 @@ const MORE: Event = Event::Node {
 };
 
 /// The records of a plan `on off`: a letter, its numbers, and of a leaf the place and the letters of its word.
-const ON_OFF: [u8; 80] = [
-    b'N',
-    0,
-    0,
-    0,
-    0,
-    0,
-    0,
-    0,
-    0,
-    0,
-    0,
-    0,
-    0,
-    0,
-    0,
-    0, // an empty list
-    b'L',
-    1,
-    0,
-    0,
-    0,
-    0,
-    0,
-    0,
-    0,
-    0,
-    0,
-    0,
-    0,
-    0,
-    b'o',
-    b'n', // a word at 0
-    b'N',
-    1,
-    2,
-    0,
-    0,
-    0,
-    0,
-    0,
-    0,
-    0,
-    0,
-    0,
-    0,
-    0,
-    0,
-    0, // the list and the word
-    b'L',
-    1,
-    0,
-    0,
-    0,
-    0,
-    0,
-    3,
-    0,
-    0,
-    0,
-    0,
-    0,
-    b'o',
-    b'f',
-    b'f', // a word at 3
-    b'N',
-    1,
-    2,
-    0,
-    0,
-    0,
-    0,
-    0,
-    0,
-    0,
-    0,
-    0,
-    0,
-    0,
-    0,
-    0, // the list and the word
-];
+const ON_OFF: [u8; 80] = *b"N\0\0\0\0\0\0\0\0\0\0\0\0\0\0\0\
+    L\x01\0\0\0\0\0\0\0\0\0\0\0\0on\
+    N\x01\x02\0\0\0\0\0\0\0\0\0\0\0\0\0\
+    L\x01\0\0\0\0\0\x03\0\0\0\0\0off\
+    N\x01\x02\0\0\0\0\0\0\0\0\0\0\0\0\0";
 
 #[test]
 fn the_events_of_on_off_give_exactly_the_bytes_of_the_format() -> Result<(), Fail> {

@@ -85,49 +85,22 @@ impl<'a> Trace<'a> {
 fn leaf_record(token: Token) -> [u8; 16]
     ensures { λ r. ⌜ r ≡ leaf-record token ⌝ }
 {
-    let p = token.place.to_be_bytes();
-    let v = token.value.to_be_bytes();
-    [
-        b'L',
-        token.kind,
-        0,
-        0,
-        p[0],
-        p[1],
-        p[2],
-        p[3],
-        v[0],
-        v[1],
-        v[2],
-        v[3],
-        v[4],
-        v[5],
-        v[6],
-        v[7],
-    ]
+    let mut event = [0; 16];
+    event[0] = b'L';
+    event[1] = token.kind;
+    event[4..8].copy_from_slice(&token.place.to_be_bytes());
+    event[8..16].copy_from_slice(&token.value.to_be_bytes());
+    event
 }
 
 fn node_record(production: u8, children: u8) -> [u8; 16]
     ensures { λ r. ⌜ r ≡ node-record production children ⌝ }
 {
-    [
-        b'N',
-        production,
-        children,
-        0,
-        0,
-        0,
-        0,
-        0,
-        0,
-        0,
-        0,
-        0,
-        0,
-        0,
-        0,
-        0,
-    ]
+    let mut event = [0; 16];
+    event[0] = b'N';
+    event[1] = production;
+    event[2] = children;
+    event
 }
 
 /// Writes `event` at `at`; the bytes before and behind it stay.
