@@ -1,0 +1,3 @@
+pub mod Kinding
+pub mod Passing
+pub mod Listing
