@@ -43,7 +43,10 @@ pub impl<S: Source> Source for Limit<S> as LimitSource {
             return Ok(None);
         };
         if self.left == 0 {
-            return Err(SourceFault::TooManyTokens { place: token.place, layer: Self::layer_number() });
+            return Err(SourceFault::TooManyTokens {
+                place: token.place,
+                layer: Self::layer_number(),
+            });
         }
         Ok(Some(token))
     }

@@ -62,5 +62,5 @@ spelled-kept ws h t k =
     cond-both (eqb (t .kind) word) (kind-of ws (t .value)) (t .kind) Kind (λ _. kind-kept ws (t .value) h) (λ _. k)
 
 pub respelled-kinded :
-  (ws : List Keyword) (s : Stream) → all-kinds ws ≡ true → Kinded (s .tokens) → Kinded (respelled ws s .tokens)
+    (ws : List Keyword) (s : Stream) → all-kinds ws ≡ true → Kinded (s .tokens) → Kinded (respelled ws s .tokens)
 respelled-kinded ws s fit h = every-map HasKind (spelled ws) (spelled-kept ws fit) (s .tokens) h

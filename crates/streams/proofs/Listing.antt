@@ -32,10 +32,10 @@ module _ (ts : List Token) (i : ℕ) where
 
   -- one step of the search for a kind out of range
   pub kind-in :
-    (d : Token) → i < length ts → is-kind (getD ts i d .kind) ≡ true
-    → first-out i (drop i ts) ≡ first-out (i + 1) (drop (i + 1) ts)
+      (d : Token) → i < length ts → is-kind (getD ts i d .kind) ≡ true
+      → first-out i (drop i ts) ≡ first-out (i + 1) (drop (i + 1) ts)
   kind-in d h fits = at-drop-more (first-out i) ts i d h ∙ cond-true _ _ _ fits
 
   pub kind-out :
-    (d : Token) → i < length ts → is-kind (getD ts i d .kind) ≡ false → first-out i (drop i ts) ≡ Some i
+      (d : Token) → i < length ts → is-kind (getD ts i d .kind) ≡ false → first-out i (drop i ts) ≡ Some i
   kind-out d h out = at-drop-more (first-out i) ts i d h ∙ cond-false _ _ _ out

@@ -51,7 +51,7 @@ module _ (layer : ℕ) where
   limited-answer n s a h = ap (passed layer n) h ∙ answer-at n (s .tokens) (s .ending)
 
   pub limited-some :
-    (n : ℕ) (s : Stream) (t : Token) → 0 < n → Ok (Some t) ≡ answer s → Ok (Some t) ≡ answer (limited layer n s)
+      (n : ℕ) (s : Stream) (t : Token) → 0 < n → Ok (Some t) ≡ answer s → Ok (Some t) ≡ answer (limited layer n s)
   limited-some zero s t some h = absurd (omega arith)
   limited-some (suc n) s t some h = limited-answer (suc n) s (Ok (Some t)) h
 
