@@ -22,17 +22,20 @@ module _ (ws : List Keyword) (w : Keyword) (ok : Ok tt ≡ add-answer ws w) wher
   room = grind (arith, tells)
 
 -- the keywords are the first n of 16, and w becomes the next
-module _ (ws : List Keyword) (n : ℕ) (w : Keyword) (all : length ws ≡ 16) (few : n ≤ 16) (ok : Ok tt ≡ add-answer (take n ws) w) where
-  below-16 : n < 16
-  below-16 = omega (arith, room (take n ws) w ok, length-take-le n ws (omega arith))
+module _
+    (ws : List Keyword) (n : ℕ) (w : Keyword) (all : length ws ≡ 16) (few : n ≤ 16)
+    (ok : Ok tt ≡ add-answer (take n ws) w)
+  where
+    below-16 : n < 16
+    below-16 = omega (arith, room (take n ws) w ok, length-take-le n ws (omega arith))
 
-  pub more : n + 1 ≤ 16
-  more = omega (arith, below-16)
+    pub more : n + 1 ≤ 16
+    more = omega (arith, below-16)
 
-  pub words-after : take (n + 1) (set ws n w) ≡ added (take n ws) w
-  words-after = take-more-set ws n w (omega (arith, below-16)) ∙ ap (λ r. kept r (take n ws) w) ok
+    pub listed-after : take (n + 1) (set ws n w) ≡ added (take n ws) w
+    listed-after = take-more-set ws n w (omega (arith, below-16)) ∙ ap (λ r. kept r (take n ws) w) ok
 
-  pub kinds-after : all-kinds (take n ws) ≡ true → all-kinds (take (n + 1) (set ws n w)) ≡ true
-  kinds-after fit =
-      ap all-kinds (take-more-set ws n w (omega (arith, below-16)))
-      ∙ all-kinds-push (take n ws) w fit (kind-fits (take n ws) w ok)
+    pub kinds-after : all-kinds (take n ws) ≡ true → all-kinds (take (n + 1) (set ws n w)) ≡ true
+    kinds-after fit =
+        ap all-kinds (take-more-set ws n w (omega (arith, below-16)))
+        ∙ all-kinds-push (take n ws) w fit (kind-fits (take n ws) w ok)

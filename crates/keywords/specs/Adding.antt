@@ -9,8 +9,8 @@ use Rattle.std.specs.declared.result.Result.the-variants.{Ok, Err}
 use Rattle.streams.specs.declared.Keyword.{Keyword}
 use Rattle.streams.specs.Listed.{is-kind}
 use Rattle.streams.specs.Spelled.{is-listed}
-use Rattle.keywords.specs.declared.KeywordRefusal.{KeywordRefusal}
-use Rattle.keywords.specs.declared.KeywordRefusal.the-variants.{KindOutOfRange, NoSpelling, AlreadyListed, NoRoom}
+use Rattle.keywords.specs.declared.refusal.KeywordRefusal.{KeywordRefusal}
+use Rattle.keywords.specs.declared.refusal.KeywordRefusal.the-variants.{KindOutOfRange, NoSpelling, AlreadyListed, NoRoom}
 
 -- the number and the place of each refusal
 abbrev pub number : KeywordRefusal → ℕ

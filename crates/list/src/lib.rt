@@ -52,7 +52,9 @@ impl<'a> ListSource<'a> {
     /// Turns to all tokens of a list, or refuses it and stays as it is.
     pub fn open(&mut self, tokens: &'a [Token]) -> Result<(), KindOutOfRange>
         ensures answer { λ r. ⌜ r ≡ open-answer (now (tokens .entry)) ⌝ }
-        ensures after { λ _. ⌜ listed (now (now (self .exit) .tokens)) (now (self .exit) .at) ≡ open-after (now (tokens .entry)) (listed (now (now (self .entry) .tokens)) (now (self .entry) .at)) ⌝ }
+        ensures after { λ _. ⌜
+            listed (now (now (self .exit) .tokens)) (now (self .exit) .at)
+            ≡ open-after (now (tokens .entry)) (listed (now (now (self .entry) .tokens)) (now (self .entry) .at)) ⌝ }
     {
         if let Some(index) = first_out_of_range(tokens) {
             return Err(KindOutOfRange { index });

@@ -55,7 +55,9 @@ kind-kept : (ws : List Keyword) (v : ℕ) → all-kinds ws ≡ true → Kind (ki
 kind-kept [] v h = (omega arith, omega arith)
 kind-kept (w ∷ ws) v h =
     let p = and-parts (is-kind (w .kind)) (all-kinds ws) h in
-    cond-both (eqb (w .spelling) v) (w .kind) (kind-of ws v) Kind (λ _. in-range (w .kind) (p .0)) (λ _. kind-kept ws v (p .1))
+    cond-both (eqb (w .spelling) v) (w .kind) (kind-of ws v) Kind
+    (λ _. in-range (w .kind) (p .0))
+    (λ _. kind-kept ws v (p .1))
 
 spelled-kept : (ws : List Keyword) → all-kinds ws ≡ true → (t : Token) → HasKind t → HasKind (spelled ws t)
 spelled-kept ws h t k =

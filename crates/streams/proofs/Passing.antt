@@ -70,5 +70,8 @@ no-token : (ts : List Token) (e : Ending) → Ends (next ts e) → ts ≡ []
 no-token [] e h = refl
 no-token (t ∷ ts) e h = absurd h
 
-pub limited-stays : (layer n : ℕ) (s : Stream) (a : Answer) → a ≡ answer s → Ends a → limited layer n (dropped s) ≡ dropped (limited layer n s)
-limited-stays layer n s a h none = stay-at layer n (s .tokens) (s .ending) (no-token (s .tokens) (s .ending) (subst Ends h none))
+pub limited-stays :
+    (layer n : ℕ) (s : Stream) (a : Answer) → a ≡ answer s → Ends a
+    → limited layer n (dropped s) ≡ dropped (limited layer n s)
+limited-stays layer n s a h ends =
+    stay-at layer n (s .tokens) (s .ending) (no-token (s .tokens) (s .ending) (subst Ends h ends))

@@ -6,11 +6,13 @@ use Rattle.list.proofs.first_out_of_range.Needs as need
 
 pub returns-then-not-is-kind : need.returns-then-not-is-kind
 returns-then-not-is-kind c =
-    sym (kind-out _ _ _ (c .loop-i-test .taken) (sym (c .is-kind .ensures) ∙ c .if-not-is-kind .taken)) ∙ c .loop-i .inv
+    sym (kind-out _ _ _ (c .loop-i-test .taken) (sym (c .is-kind .ensures) ∙ c .if-not-is-kind .taken))
+    ∙ c .loop-i .inv
 
 pub loop-i-again : need.loop-i-again
 loop-i-again c =
-    sym (kind-in _ _ _ (c .loop-i-test .taken) (sym (c .is-kind .ensures) ∙ c .if-not-is-kind .left)) ∙ c .loop-i .inv
+    sym (kind-in _ _ _ (c .loop-i-test .taken) (sym (c .is-kind .ensures) ∙ c .if-not-is-kind .left))
+    ∙ c .loop-i .inv
 
 pub returns : need.returns
 returns c =
