@@ -2,16 +2,17 @@
 use mathlib.Core.Path.{_≡_, refl, sym, ap, ap₂, _∙_}
 use mathlib.Core.Bool.{Bool, true, false, cond}
 use mathlib.Core.List.{List, [], _∷_, map}
-use Prim.Native.Nat.{ℕ, _+_, _*_, _^_, _≤_, _<_}
+use mathlib.Core.Logic.{⊎-elim}
+use Prim.Native.Nat.{ℕ, zero, suc, _+_, _*_, _^_, _≤_, _<_}
 use native.Mathlib.Omega.{arith}
 use lib.Pow.{pow-mono, pow-add}
 use lib.Dec.{leb}
-use lib.ListN.{length, getD, drop}
+use lib.ListN.{length, getD, take, drop}
 use Rattle.std.specs.declared.result.Result.the-variants.{Ok, Err}
 use Rattle.std.specs.shelf.Digits.{numberAfter}
 use Rattle.std.proofs.shelf.Digits.{numberAfter-ge}
 use Rattle.std.proofs.shelf.Lists.{at-drop-more, at-drop-all}
-use Rattle.std.proofs.shelf.Tests.{cond-true, cond-false, cond-both, le-leb, lt-leb}
+use Rattle.std.proofs.shelf.Tests.{cases-bool, cond-true, cond-false, cond-both, le-leb, lt-leb}
 use Rattle.source.specs.declared.SourceFault.the-variants.{LongWord, LargeNumber}
 use Rattle.lexing.specs.Plans.{is-letter, is-digit, run, spelled, digit, decimal, token, word, numeral}
 
@@ -22,6 +23,44 @@ module _ (f : ℕ → Bool) where
       cond-both (f b) (b ∷ run f bs) [] (λ r. length r ≤ length (b ∷ bs))
       (λ _. omega (arith, length-run-le bs))
       (λ _. omega arith)
+
+  front-yes : (b : ℕ) (bs : List ℕ) → f b ≡ true → run f (b ∷ bs) ≡ b ∷ run f bs
+  front-yes b bs pass = cond-true (f b) (b ∷ run f bs) [] pass
+
+  front-no : (b : ℕ) (bs : List ℕ) → f b ≡ false → run f (b ∷ bs) ≡ []
+  front-no b bs stop = cond-false (f b) (b ∷ run f bs) [] stop
+
+  -- each byte of the run passes
+  pub run-passes : (bs : List ℕ) (k : ℕ) → k < length (run f bs) → f (getD bs k 0) ≡ true
+  run-passes [] k h = absurd (omega arith)
+  run-passes (b ∷ bs) zero h =
+      ⊎-elim (λ pass. pass) (λ stop. absurd (omega (arith, ap length (front-no b bs stop)))) (cases-bool (f b))
+  run-passes (b ∷ bs) (suc k) h =
+      ⊎-elim
+      (λ pass. run-passes bs k (omega (arith, ap length (front-yes b bs pass))))
+      (λ stop. absurd (omega (arith, ap length (front-no b bs stop))))
+      (cases-bool (f b))
+
+  -- the byte behind it does not
+  pub run-behind : (bs : List ℕ) → length (run f bs) < length bs → f (getD bs (length (run f bs)) 0) ≡ false
+  run-behind [] h = absurd (omega arith)
+  run-behind (b ∷ bs) h =
+      ⊎-elim
+      (λ pass. ap (λ r. f (getD (b ∷ bs) (length r) 0)) (front-yes b bs pass)
+          ∙ run-behind bs (omega (arith, ap length (front-yes b bs pass))))
+      (λ stop. ap (λ r. f (getD (b ∷ bs) (length r) 0)) (front-no b bs stop) ∙ stop)
+      (cases-bool (f b))
+
+  -- a front of which every byte passes, with a byte behind it that does not, is the run
+  pub run-is :
+    (bs : List ℕ) (n : ℕ) → n ≤ length bs → ((k : ℕ) → k < n → f (getD bs k 0) ≡ true)
+    → (n < length bs → f (getD bs n 0) ≡ false) → run f bs ≡ take n bs
+  run-is [] zero few passes stops = refl
+  run-is [] (suc n) few passes stops = absurd (omega arith)
+  run-is (b ∷ bs) zero few passes stops = front-no b bs (stops (omega arith))
+  run-is (b ∷ bs) (suc n) few passes stops =
+      front-yes b bs (passes 0 (omega arith))
+      ∙ ap (λ r. b ∷ r) (run-is bs n (omega arith) (λ k h. passes (suc k) (omega arith)) (λ h. stops (omega arith)))
 
   module _ (bs : List ℕ) (i : ℕ) where
     pub run-more : i < length bs → f (getD bs i 0) ≡ true → run f (drop i bs) ≡ getD bs i 0 ∷ run f (drop (i + 1) bs)
