@@ -1,0 +1,2 @@
+//! The lexer: the tokens of a plan, from its bytes.
+mod scan;
