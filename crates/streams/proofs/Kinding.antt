@@ -1,5 +1,5 @@
 -- Every token of a list, of a limited stream and of a respelled one has a kind of 1 to 31.
-use mathlib.Core.Path.{_≡_}
+use mathlib.Core.Path.{_≡_, ap, _∙_}
 use mathlib.Core.Bool.{Bool, true, false, cond}
 use mathlib.Core.List.{List, [], _∷_, map}
 use Prim.Native.Nat.{ℕ, zero, suc, _+_, _≤_, _<_}
@@ -8,10 +8,11 @@ use lib.ListN.{take, drop}
 use lib.Dec.{eqb, leb}
 use Rattle.std.specs.Options.{isSome}
 use Rattle.std.specs.declared.option.Option.the-variants.{Some}
-use Rattle.std.proofs.shelf.Tests.{true≢false, and-parts, cond-both, leb-true}
+use Rattle.std.specs.declared.result.Result.the-variants.{Ok}
+use Rattle.std.proofs.shelf.Tests.{true≢false, and-parts, and-from, cond-both, leb-true, le-leb}
 use Rattle.syntax.specs.declared.Token.{Token}
 use Rattle.syntax.specs.Grammar.{Kind, Every, Kinded}
-use Rattle.source.specs.Streams.{Stream}
+use Rattle.source.specs.Streams.{Ending, end, fault, Stream, next, answer}
 use Rattle.streams.specs.declared.Keyword.{Keyword}
 use Rattle.streams.specs.Listed.{is-kind, first-out}
 use Rattle.streams.specs.Spelled.{word, kind-of, spelled, respelled, all-kinds}
@@ -37,14 +38,14 @@ HasKind t = Kind (t .kind)
 pub limited-kinded : (n : ℕ) (s : Stream) → Kinded (s .tokens) → Kinded (take n (s .tokens))
 limited-kinded n s h = every-take HasKind n (s .tokens) h
 
-in-range : (k : ℕ) → is-kind k ≡ true → Kind k
-in-range k h = let p = and-parts (leb 1 k) (leb k 31) h in (leb-true 1 k (p .0), omega (arith, leb-true k 31 (p .1)))
+pub kind-from : (k : ℕ) → is-kind k ≡ true → Kind k
+kind-from k h = let p = and-parts (leb 1 k) (leb k 31) h in (leb-true 1 k (p .0), omega (arith, leb-true k 31 (p .1)))
 
 none-out : (i : ℕ) (ts : List Token) → isSome (first-out i ts) ≡ false → Kinded ts
 none-out i [] h = tt
 none-out i (t ∷ ts) h =
     cond-both (is-kind (t .kind)) (first-out (i + 1) ts) (Some i) (λ o. isSome o ≡ false → Kinded (t ∷ ts))
-    (λ e none. (in-range (t .kind) e, none-out (i + 1) ts none))
+    (λ e none. (kind-from (t .kind) e, none-out (i + 1) ts none))
     (λ e some. absurd (true≢false some))
     h
 
@@ -56,7 +57,7 @@ kind-kept [] v h = (omega arith, omega arith)
 kind-kept (w ∷ ws) v h =
     let p = and-parts (is-kind (w .kind)) (all-kinds ws) h in
     cond-both (eqb (w .spelling) v) (w .kind) (kind-of ws v) Kind
-    (λ _. in-range (w .kind) (p .0))
+    (λ _. kind-from (w .kind) (p .0))
     (λ _. kind-kept ws v (p .1))
 
 spelled-kept : (ws : List Keyword) → all-kinds ws ≡ true → (t : Token) → HasKind t → HasKind (spelled ws t)
@@ -66,3 +67,16 @@ spelled-kept ws h t k =
 pub respelled-kinded :
     (ws : List Keyword) (s : Stream) → all-kinds ws ≡ true → Kinded (s .tokens) → Kinded (respelled ws s .tokens)
 respelled-kinded ws s fit h = every-map HasKind (spelled ws) (spelled-kept ws fit) (s .tokens) h
+
+to-test : (k : ℕ) → Kind k → is-kind k ≡ true
+to-test k h = and-from (leb 1 k) (leb k 31) (le-leb 1 k (h .0)) (le-leb k 31 (omega (arith, h .1)))
+
+next-kind :
+  (ts : List Token) (e : Ending) (t : Token) → Kinded ts → Ok (Some t) ≡ next ts e → is-kind (t .kind) ≡ true
+next-kind [] end t h a = let z : _≡_ {A = ℕ} 0 1 = cc in absurd (omega arith)
+next-kind [] (fault f) t h a = let z : _≡_ {A = ℕ} 0 1 = cc in absurd (omega arith)
+next-kind (x ∷ ts) e t h a = let same : t ≡ x = cc in ap (λ u. is-kind (u .kind)) same ∙ to-test (x .kind) (h .0)
+
+-- a token that is answered has a kind of a token
+pub answer-kind : (s : Stream) (t : Token) → Kinded (s .tokens) → Ok (Some t) ≡ answer s → is-kind (t .kind) ≡ true
+answer-kind s t h a = next-kind (s .tokens) (s .ending) t h a
