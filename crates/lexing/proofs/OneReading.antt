@@ -1,0 +1,148 @@
+-- A plan is read in one way, and that is what its bytes mean.
+use mathlib.Core.Path.{_≡_, refl, sym, ap, subst, _∙_}
+use mathlib.Core.Bool.{Bool, true, false, cond}
+use mathlib.Core.List.{List, [], _∷_}
+use mathlib.Core.Logic.{⊎-elim}
+use Prim.Native.Nat.{ℕ, zero, suc, _+_, _-_, _≤_, _<_}
+use native.Mathlib.Omega.{arith}
+use native.Mathlib.Nat.{add-zero}
+use lib.Chars.{codes}
+use lib.Dec.{eqb, leb}
+use lib.ListN.{length, getD, take, drop, length-take, length-drop}
+use Rattle.std.specs.declared.option.Option.{Option}
+use Rattle.std.specs.declared.option.Option.the-variants.{Some, None}
+use Rattle.std.specs.declared.result.Result.the-variants.{Ok, Err}
+use Rattle.std.proofs.shelf.Lists.{getD-drop, length-take-le}
+use Rattle.std.proofs.shelf.Tests.{cases-lt, cond-true, cond-false, cond-both, leb-true, leb-false}
+use Rattle.std.proofs.shelf.Ways.{tells}
+use Rattle.syntax.specs.declared.Token.{Token}
+use Rattle.source.specs.declared.SourceFault.{SourceFault}
+use Rattle.source.specs.declared.SourceFault.the-variants.{UnknownByte, LongWord, LargeNumber, TooManyTokens}
+use Rattle.source.specs.Faults.{place}
+use Rattle.source.specs.Streams.{Ending, end, fault, Stream}
+use Rattle.lexing.specs.Plans.{
+  is-blank, is-letter, is-digit, index-from, mark-kind, run, spelled, decimal, token, Item, word, numeral, mark, item,
+  lexed-from,
+}
+use Rattle.lexing.specs.Reading.{
+  byte, text, Passes, Run, behind, TokenAt, a-word, a-number, a-mark, FaultAt, an-unknown-byte, a-long-word,
+  a-large-number, EndsAt, Reads,
+}
+use Rattle.lexing.proofs.Runs.{
+  length-run-le, run-passes, run-behind, run-is, run-more, word-ok, word-err, numeral-ok, numeral-err,
+}
+use Rattle.lexing.proofs.Lexed.{
+  here, here-within, end-there, token-there, fault-there, behind-blanks, no-blank-there, blanks-within,
+}
+
+module _ (plan : List ℕ) where
+  -- the longest run that the meaning takes, as places of the plan
+  module _ (f : ℕ → Bool) (p : ℕ) (lt : p < length plan) (first : f (getD plan p 0) ≡ true) where
+    abbrev bytes : List ℕ
+    bytes = run f (drop p plan)
+
+    there : (k : ℕ) → getD (drop p plan) k 0 ≡ getD plan (p + k) 0
+    there k = getD-drop p plan k 0
+
+    the-run : Run plan f p (p + length bytes)
+    the-run = record {
+      some = omega (arith, ap length (run-more f plan p lt first));
+      within = omega (arith, length-run-le f (drop p plan), length-drop p plan);
+      passes = λ k from to.
+        let j : k ≡ p + (k - p) = omega arith in
+        ap (λ i. f (getD plan i 0)) j ∙ sym (ap f (there (k - p))) ∙ run-passes f (drop p plan) (k - p) (omega arith);
+      stops = λ to.
+        sym (ap f (there (length bytes))) ∙ run-behind f (drop p plan) (omega (arith, length-drop p plan));
+    }
+
+  -- a run between places is the one that the meaning takes
+  run-there : (f : ℕ → Bool) (p q : ℕ) → Run plan f p q → run f (drop p plan) ≡ text plan p q
+  run-there f p q r =
+      run-is f (drop p plan) (q - p) (omega (arith, r .some, r .within, length-drop p plan))
+      (λ k h. ap f (getD-drop p plan k 0) ∙ r .passes (p + k) (omega arith) (omega (arith, r .some)))
+      (λ h. ap f (getD-drop p plan (q - p) 0) ∙ ap (λ i. f (getD plan i 0)) (omega (arith, r .some))
+          ∙ r .stops (omega (arith, r .some, length-drop p plan)))
+
+  text-length : (f : ℕ → Bool) (p q : ℕ) → Run plan f p q → length (text plan p q) ≡ q - p
+  text-length f p q r = length-take-le (q - p) (drop p plan) (omega (arith, r .within, length-drop p plan))
+
+  -- what the meaning takes for an item, as places of the plan
+  abbrev ItemAt : ℕ → Item → Type 0
+  ItemAt p (Ok t) = (t .place ≡ p) × TokenAt plan t
+  ItemAt p (Err f) = (place f ≡ p) × FaultAt plan f
+
+  module _ (p : ℕ) (lt : p < length plan) where
+    word-at : is-letter (getD plan p 0) ≡ true → ItemAt p (word p (run is-letter (drop p plan)))
+    word-at first =
+        let bs = run is-letter (drop p plan) in
+        let r = the-run is-letter p lt first in
+        let same = ap spelled (run-there is-letter p (p + length bs) r) in
+        cond-both (leb (length bs) 8) (Ok (token 1 p (length bs) (spelled bs))) (Err (LongWord p 0)) (ItemAt p)
+        (λ short. (refl, a-word r (leb-true _ 8 short) refl same))
+        (λ long. (refl, a-long-word p (p + length bs) r (omega (arith, leb-false _ 8 long))))
+
+    numeral-at : is-digit (getD plan p 0) ≡ true → ItemAt p (numeral p (run is-digit (drop p plan)))
+    numeral-at first =
+        let bs = run is-digit (drop p plan) in
+        let r = the-run is-digit p lt first in
+        let same = ap decimal (run-there is-digit p (p + length bs) r) in
+        cond-both (leb (decimal bs) 4294967295) (Ok (token 2 p (length bs) (decimal bs))) (Err (LargeNumber p 0)) (ItemAt p)
+        (λ small. (refl, a-number r (leb-true _ 4294967295 small) refl same))
+        (λ large. (refl, a-large-number p (p + length bs) r (omega (arith, leb-false _ 4294967295 large, same))))
+
+    module _ (blank : is-blank (getD plan p 0) ≡ false) where
+      mark-at :
+        is-letter (getD plan p 0) ≡ false → is-digit (getD plan p 0) ≡ false
+        → (k : Option ℕ) → mark-kind (getD plan p 0) ≡ k → ItemAt p (mark p k)
+      mark-at letter digit (Some k) e = (refl, a-mark lt refl e refl)
+      mark-at letter digit None e = (refl, an-unknown-byte p lt blank letter digit e)
+
+      item-at : ItemAt p (here plan p)
+      item-at =
+          let b = getD plan p 0 in
+          let bs = drop p plan in
+          let other = cond (is-digit b) (numeral p (run is-digit bs)) (mark p (mark-kind b)) in
+          cond-both (is-letter b) (word p (run is-letter bs)) other (ItemAt p) word-at
+          (λ letter. cond-both (is-digit b) (numeral p (run is-digit bs)) (mark p (mark-kind b)) (ItemAt p) numeral-at
+              (λ digit. mark-at letter digit (mark-kind b) refl))
+
+  abbrev Reading : ℕ → Stream → Type 0
+  Reading p s = Reads plan p (s .tokens) (s .ending)
+
+  -- with blanks from place p up to place q, and an item there
+  read-item :
+    (p q : ℕ) → p ≤ q → Passes plan is-blank p q → q < length plan → is-blank (getD plan q 0) ≡ false
+    → (i : Item) → i ≡ here plan q → ItemAt q i
+    → ((r : ℕ) → q < r → r ≤ length plan → Reading r (lexed-from r plan)) → Reading p (lexed-from q plan)
+  read-item p q le blanks lt blank (Ok t) i at onward =
+      let inside = here-within plan q lt t i in
+      let next = onward (q + t .length) (omega (arith, inside .0)) (inside .1) in
+      let back = sym (at .0) in
+      subst (Reading p) (sym (token-there plan q lt blank t i))
+      ( omega (arith, back)
+      , subst (λ k. Passes plan is-blank p k) back blanks
+      , at .1
+      , subst (λ k. Reading (k + t .length) (lexed-from (q + t .length) plan)) back next )
+  read-item p q le blanks lt blank (Err f) i at onward =
+      subst (Reading p) (sym (fault-there plan q lt blank f i)) (q, le, blanks, (sym (at .0), at .1))
+
+  blanks-pass : (p : ℕ) → Passes plan is-blank p (p + length (run is-blank (drop p plan)))
+  blanks-pass p k from to =
+      let j : k ≡ p + (k - p) = omega arith in
+      ap (λ i. is-blank (getD plan i 0)) j ∙ sym (ap is-blank (getD-drop p plan (k - p) 0))
+      ∙ run-passes is-blank (drop p plan) (k - p) (omega arith)
+
+  -- from place p on, within so many steps
+  reads-from : (steps p : ℕ) → p ≤ length plan → length plan < p + steps → Reading p (lexed-from p plan)
+  reads-from zero p within far = absurd (omega arith)
+  reads-from (suc steps) p within far =
+      let n : ℕ = length (run is-blank (drop p plan)) in
+      let le : p ≤ p + n = omega arith in
+      subst (Reading p) (behind-blanks plan p n refl)
+      (⊎-elim
+        (λ lt. let blank = no-blank-there plan p n refl lt in
+            read-item p (p + n) le (blanks-pass p) lt blank (here plan (p + n)) refl (item-at (p + n) lt blank)
+            (λ r behind within. reads-from steps r within (omega arith)))
+        (λ ge. let at : p + n ≡ length plan = omega (arith, blanks-within plan p n refl within) in
+            subst (Reading p) (sym (end-there plan (p + n) ge)) (p + n, le, blanks-pass p, at))
+        (cases-lt (p + n) (length plan)))
