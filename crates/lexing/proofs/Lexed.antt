@@ -76,7 +76,7 @@ module _ (p b : ℕ) (bs : List ℕ) where
 
 -- the plan from place p on
 module _ (plan : List ℕ) (p : ℕ) where
-  at-blank : p < length plan → is-blank (getD plan p 0) ≡ true → lexed-from p plan ≡ lexed-from (p + 1) plan
+  pub at-blank : p < length plan → is-blank (getD plan p 0) ≡ true → lexed-from p plan ≡ lexed-from (p + 1) plan
   at-blank h e = ap (lexed p 0) (drop-more plan p 0 h) ∙ blank-front p (getD plan p 0) (drop (p + 1) plan) e
 
   -- the item there

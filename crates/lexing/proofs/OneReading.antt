@@ -1,6 +1,6 @@
 -- A plan is read in one way, and that is what its bytes mean.
-use mathlib.Core.Path.{_≡_, refl, sym, ap, subst, _∙_}
-use mathlib.Core.Bool.{Bool, true, false, cond}
+use mathlib.Core.Path.{_≡_, refl, sym, ap, ap₂, subst, _∙_}
+use mathlib.Core.Bool.{Bool, true, false, cond, not, _&&_}
 use mathlib.Core.List.{List, [], _∷_}
 use mathlib.Core.Logic.{⊎-elim}
 use Prim.Native.Nat.{ℕ, zero, suc, _+_, _-_, _≤_, _<_}
@@ -13,7 +13,7 @@ use Rattle.std.specs.declared.option.Option.{Option}
 use Rattle.std.specs.declared.option.Option.the-variants.{Some, None}
 use Rattle.std.specs.declared.result.Result.the-variants.{Ok, Err}
 use Rattle.std.proofs.shelf.Lists.{getD-drop, length-take-le}
-use Rattle.std.proofs.shelf.Tests.{cases-lt, cond-true, cond-false, cond-both, leb-true, leb-false}
+use Rattle.std.proofs.shelf.Tests.{cases-lt, and-parts, not-true, eqb-true, cond-true, cond-false, cond-both, leb-true, leb-false}
 use Rattle.std.proofs.shelf.Ways.{tells}
 use Rattle.syntax.specs.declared.Token.{Token}
 use Rattle.source.specs.declared.SourceFault.{SourceFault}
@@ -26,13 +26,13 @@ use Rattle.lexing.specs.Plans.{
 }
 use Rattle.lexing.specs.Reading.{
   byte, text, Passes, Run, behind, TokenAt, a-word, a-number, a-mark, FaultAt, an-unknown-byte, a-long-word,
-  a-large-number, EndsAt, Reads,
+  a-large-number, Reads, TheReading,
 }
 use Rattle.lexing.proofs.Runs.{
   length-run-le, run-passes, run-behind, run-is, run-more, word-ok, word-err, numeral-ok, numeral-err,
 }
 use Rattle.lexing.proofs.Lexed.{
-  here, here-within, end-there, token-there, fault-there, behind-blanks, no-blank-there, blanks-within,
+  here, here-within, at-blank, end-there, token-there, fault-there, behind-blanks, no-blank-there, blanks-within,
 }
 
 module _ (plan : List ℕ) where
@@ -146,3 +146,161 @@ module _ (plan : List ℕ) where
         (λ ge. let at : p + n ≡ length plan = omega (arith, blanks-within plan p n refl within) in
             subst (Reading p) (sym (end-there plan (p + n) ge)) (p + n, le, blanks-pass p, at))
         (cases-lt (p + n) (length plan)))
+
+-- the classes of bytes do not meet
+letter-blank : (b : ℕ) → is-letter b ≡ true → is-blank b ≡ false
+letter-blank b h = grind (arith, tells)
+
+digit-blank : (b : ℕ) → is-digit b ≡ true → is-blank b ≡ false
+digit-blank b h = grind (arith, tells)
+
+digit-letter : (b : ℕ) → is-digit b ≡ true → is-letter b ≡ false
+digit-letter b h = grind (arith, tells)
+
+-- no byte of a list passes
+abbrev none : (ℕ → Bool) → List ℕ → Bool
+none f [] = true
+none f (x ∷ xs) = not (f x) && none f xs
+
+-- then one that is found there does not
+found : (f : ℕ → Bool) (k : ℕ) (xs : List ℕ) (b j : ℕ) → none f xs ≡ true → index-from k xs b ≡ Some j → f b ≡ false
+found f k [] b j each e = let z : _≡_ {A = ℕ} 0 1 = cc in absurd (omega arith)
+found f k (x ∷ xs) b j each e =
+    let p = and-parts (not (f x)) (none f xs) each in
+    cond-both (eqb b x) (Some k) (index-from (k + 1) xs b) (λ o. o ≡ Some j → f b ≡ false)
+    (λ same _. ap f (eqb-true b x same) ∙ not-true (f x) (p .0))
+    (λ _ e. found f (k + 1) xs b j (p .1) e)
+    e
+
+-- a mark is of no other class
+module _ (b k : ℕ) (e : mark-kind b ≡ Some k) where
+  mark-blank : is-blank b ≡ false
+  mark-blank = found is-blank 3 (codes "+-*/(),;:=<>{}") b k refl e
+
+  mark-letter : is-letter b ≡ false
+  mark-letter = found is-letter 3 (codes "+-*/(),;:=<>{}") b k refl e
+
+  mark-digit : is-digit b ≡ false
+  mark-digit = found is-digit 3 (codes "+-*/(),;:=<>{}") b k refl e
+
+-- the item by the class of its first byte
+module _ (p b : ℕ) (bs : List ℕ) where
+  item-word : is-letter b ≡ true → item p b bs ≡ word p (run is-letter bs)
+  item-word letter = cond-true (is-letter b) (word p (run is-letter bs)) _ letter
+
+  item-numeral : is-letter b ≡ false → is-digit b ≡ true → item p b bs ≡ numeral p (run is-digit bs)
+  item-numeral letter digit =
+      cond-false (is-letter b) (word p (run is-letter bs)) _ letter
+      ∙ cond-true (is-digit b) (numeral p (run is-digit bs)) _ digit
+
+  item-mark : is-letter b ≡ false → is-digit b ≡ false → item p b bs ≡ mark p (mark-kind b)
+  item-mark letter digit =
+      cond-false (is-letter b) (word p (run is-letter bs)) _ letter
+      ∙ cond-false (is-digit b) (numeral p (run is-digit bs)) _ digit
+
+module _ (plan : List ℕ) where
+  -- what stands at place p is the item i
+  record Stands (p : ℕ) (i : Item) : Type 0 where
+    lt : p < length plan
+    blank : is-blank (getD plan p 0) ≡ false
+    is : i ≡ here plan p
+
+  first-passes : (f : ℕ → Bool) (p q : ℕ) → Run plan f p q → f (getD plan p 0) ≡ true
+  first-passes f p q r = r .passes p (omega arith) (r .some)
+
+  word-stands : (p q : ℕ) → Run plan is-letter p q → Stands p (word p (text plan p q))
+  word-stands p q r =
+      let letter = first-passes is-letter p q r in
+      record {
+        lt = omega (arith, r .some, r .within);
+        blank = letter-blank (getD plan p 0) letter;
+        is = sym (item-word p (getD plan p 0) (drop p plan) letter ∙ ap (word p) (run-there plan is-letter p q r));
+      }
+
+  numeral-stands : (p q : ℕ) → Run plan is-digit p q → Stands p (numeral p (text plan p q))
+  numeral-stands p q r =
+      let digit = first-passes is-digit p q r in
+      record {
+        lt = omega (arith, r .some, r .within);
+        blank = digit-blank (getD plan p 0) digit;
+        is = sym (item-numeral p (getD plan p 0) (drop p plan) (digit-letter (getD plan p 0) digit) digit
+          ∙ ap (numeral p) (run-there plan is-digit p q r));
+      }
+
+  mark-stands :
+    (p k : ℕ) → p < length plan → mark-kind (getD plan p 0) ≡ Some k → Stands p (Ok (token k p 1 0))
+  mark-stands p k lt e =
+      let b = getD plan p 0 in
+      record {
+        lt = lt;
+        blank = mark-blank b k e;
+        is = sym (item-mark p b (drop p plan) (mark-letter b k e) (mark-digit b k e) ∙ ap (mark p) e);
+      }
+
+  -- a token by its parts
+  as-token :
+    (t : Token) (k n v : ℕ) → t .kind ≡ k → t .length ≡ n → t .value ≡ v → token k (t .place) n v ≡ t
+  as-token t k n v kind length value =
+      sym (ap₂ (λ x y. token x (t .place) y (t .value)) kind length ∙ ap (token k (t .place) n) value)
+
+  token-stands : (t : Token) → TokenAt plan t → Stands (t .place) (Ok t)
+  token-stands t (a-word r few kind value) =
+      let bs = text plan (t .place) (behind plan t) in
+      let n : t .length ≡ length bs = omega (arith, text-length plan is-letter (t .place) (behind plan t) r) in
+      subst (Stands (t .place)) (sym (word-ok (t .place) bs (omega arith)) ∙ ap Ok (as-token t 1 _ _ kind n value))
+      (word-stands (t .place) (behind plan t) r)
+  token-stands t (a-number r small kind value) =
+      let bs = text plan (t .place) (behind plan t) in
+      let n : t .length ≡ length bs = omega (arith, text-length plan is-digit (t .place) (behind plan t) r) in
+      subst (Stands (t .place)) (sym (numeral-ok (t .place) bs (omega arith)) ∙ ap Ok (as-token t 2 _ _ kind n value))
+      (numeral-stands (t .place) (behind plan t) r)
+  token-stands t (a-mark lt one e value) =
+      subst (Stands (t .place)) (ap Ok (as-token t (t .kind) 1 0 refl one value)) (mark-stands (t .place) (t .kind) lt e)
+
+  fault-stands : (f : SourceFault) → FaultAt plan f → Stands (place f) (Err f)
+  fault-stands f (an-unknown-byte p lt blank letter digit e) = record {
+    lt = lt;
+    blank = blank;
+    is = sym (item-mark p (getD plan p 0) (drop p plan) letter digit ∙ ap (mark p) e);
+  }
+  fault-stands f (a-long-word p q r long) =
+      let n = text-length plan is-letter p q r in
+      subst (Stands p) (sym (word-err p (text plan p q) (omega arith))) (word-stands p q r)
+  fault-stands f (a-large-number p q r large) =
+      subst (Stands p) (sym (numeral-err p (text plan p q) large)) (numeral-stands p q r)
+
+  -- blanks from place p up to place q mean nothing
+  over-blanks :
+    (n p : ℕ) → p + n ≤ length plan → Passes plan is-blank p (p + n) → lexed-from p plan ≡ lexed-from (p + n) plan
+  over-blanks zero p within blanks = ap (λ k. lexed-from k plan) (sym (add-zero p))
+  over-blanks (suc n) p within blanks =
+      at-blank plan p (omega arith) (blanks p (omega arith) (omega arith))
+      ∙ over-blanks n (p + 1) (omega arith) (λ k from to. blanks k (omega arith) (omega arith))
+      ∙ ap (λ k. lexed-from k plan) (omega arith)
+
+  up-to :
+    (p q : ℕ) → p ≤ q → q ≤ length plan → Passes plan is-blank p q → lexed-from p plan ≡ lexed-from q plan
+  up-to p q le within blanks =
+      let e : p + (q - p) ≡ q = omega arith in
+      over-blanks (q - p) p (omega arith) (subst (Passes plan is-blank p) (sym e) blanks) ∙ ap (λ k. lexed-from k plan) e
+
+  reads-as :
+    (ts : List Token) (e : Ending) (p : ℕ) → Reads plan p ts e → record { tokens = ts; ending = e } ≡ lexed-from p plan
+  reads-as [] end p (q, le, blanks, at) =
+      sym (up-to p q le (omega (arith, at)) blanks ∙ end-there plan q (omega (arith, at)))
+  reads-as [] (fault f) p (q, le, blanks, at) =
+      let s = subst (λ k. Stands k (Err f)) (sym (at .0)) (fault-stands f (at .1)) in
+      sym (up-to p q le (omega (arith, s .lt)) blanks ∙ fault-there plan q (s .lt) (s .blank) f (s .is))
+  reads-as (t ∷ ts) e p (le, blanks, at, onward) =
+      let s = token-stands t at in
+      let behind-it = reads-as ts e (behind plan t) onward in
+      let there = token-there plan (t .place) (s .lt) (s .blank) t (s .is) in
+      ap (λ m. record { tokens = t ∷ m .tokens; ending = m .ending }) behind-it
+      ∙ sym (up-to p (t .place) le (omega (arith, s .lt)) blanks ∙ there)
+
+-- the meaning of a plan is the one way to read it
+pub the-reading : (plan : List ℕ) → TheReading plan (lexed-from 0 plan)
+the-reading plan = record {
+  reads = reads-from plan (length plan + 1) 0 (omega arith) (omega arith);
+  only = λ other r. reads-as plan (other .tokens) (other .ending) 0 r;
+}
