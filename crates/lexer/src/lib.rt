@@ -5,23 +5,27 @@ ghost use mathlib.Core.List.{[]};
 ghost use Prim.Native.Nat.{_≤_};
 ghost use denote.Ref.{now};
 ghost use lib.ListN.{length};
+ghost use Rattle.std.specs.declared.result.Result.the-variants.{Ok};
 ghost use Rattle.source.specs.Streams.{answer, dropped};
 ghost use Rattle.lexing.specs.Plans.{lexed-from};
+ghost use Rattle.lexing.specs.Reading.{TheReading};
 ghost use Rattle.lexer.specs.declared.ahead.Ahead.the-variants.{Unread};
 ghost use Rattle.lexer.specs.Looking.{looking, seen-kind, noted, looking-kinded};
 ghost use Rattle.lexer.specs.Opening.{open-answer, open-after};
 use crate::ahead::Ahead;
 use crate::scan::blanks;
 use crate::scan::item;
+pub use opening::PlanTooLong;
 use source::Layered;
 use source::Source;
 use source::SourceFault;
+pub use spell::spelling;
 use syntax::Token;
-pub use opening::PlanTooLong;
 
 mod ahead;
 mod opening;
 mod scan;
+mod spell;
 
 /// The tokens of a plan, from a position on. An item is scanned once, however often it is peeked.
 #[derive(Drop)]
@@ -39,21 +43,31 @@ impl<'a> Lexer<'a> {
     pub fn empty() -> Lexer<'a>
         ensures { λ r. ⌜ looking (now (r .plan)) (r .at) (r .ahead) ≡ lexed-from 0 [] ⌝ }
     {
-        Lexer { plan: &[], at: 0, ahead: Ahead::Unread }
+        Lexer {
+            plan: &[],
+            at: 0,
+            ahead: Ahead::Unread,
+        }
     }
 
     /// Turns to the whole of a plan, or refuses it and stays as it is.
     pub fn open(&mut self, plan: &'a [u8]) -> Result<(), PlanTooLong>
         ensures answer { λ r. ⌜ r ≡ open-answer (now (plan .entry)) ⌝ }
+        ensures reading { λ r. ⌜ (r ≡ Ok tt → TheReading (now (plan .entry))
+            (looking (now (now (self .exit) .plan)) (now (self .exit) .at) (now (self .exit) .ahead))) ⌝ }
         ensures after { λ _. ⌜
             looking (now (now (self .exit) .plan)) (now (self .exit) .at) (now (self .exit) .ahead)
             ≡ open-after (now (plan .entry))
-                (looking (now (now (self .entry) .plan)) (now (self .entry) .at) (now (self .entry) .ahead)) ⌝ }
+            (looking (now (now (self .entry) .plan)) (now (self .entry) .at) (now (self .entry) .ahead)) ⌝ }
     {
         if plan.len() > 65_535 {
             return Err(PlanTooLong);
         }
-        *self = Lexer { plan, at: 0, ahead: Ahead::Unread };
+        *self = Lexer {
+            plan,
+            at: 0,
+            ahead: Ahead::Unread,
+        };
         Ok(())
     }
 

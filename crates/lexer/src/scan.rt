@@ -34,7 +34,12 @@ pub(crate) fn item(rest: &[u8], place: u32) -> Result<Token, SourceFault>
         'a'..='z' => word(rest, place),
         '0'..='9' => numeral(rest, place),
         _ => match mark_kind(first) {
-            Some(kind) => Ok(Token { kind, place, length: 1, value: 0 }),
+            Some(kind) => Ok(Token {
+                kind,
+                place,
+                length: 1,
+                value: 0,
+            }),
             None => Err(SourceFault::UnknownByte { place, layer: 0 }),
         },
     }
@@ -64,7 +69,7 @@ fn mark_kind(byte: u8) -> Option<u8>
 }
 
 // The word that comes first. The ninth letter is a fault, so that no run is longer than that to look at.
-fn word(rest: &[u8], place: u32) -> Result<Token, SourceFault>
+pub(crate) fn word(rest: &[u8], place: u32) -> Result<Token, SourceFault>
     ensures { λ r. ⌜ r ≡ wordOf place (run is-letter (now (rest .entry))) ⌝ }
 {
     let mut length: u32 = 0;
@@ -79,7 +84,12 @@ fn word(rest: &[u8], place: u32) -> Result<Token, SourceFault>
         value = value * 256 + *byte as u64;
         length += 1;
     }
-    Ok(Token { kind: 1, place, length, value })
+    Ok(Token {
+        kind: 1,
+        place,
+        length,
+        value,
+    })
 }
 
 // The number that comes first.
@@ -99,5 +109,10 @@ fn numeral(rest: &[u8], place: u32) -> Result<Token, SourceFault>
         }
         length += 1;
     }
-    Ok(Token { kind: 2, place, length, value })
+    Ok(Token {
+        kind: 2,
+        place,
+        length,
+        value,
+    })
 }

@@ -19,8 +19,22 @@ use Rattle.source.specs.declared.SourceFault.{SourceFault}
 use Rattle.source.specs.declared.SourceFault.the-variants.{LongWord, LargeNumber}
 use Rattle.source.specs.Streams.{Stream, end, fault}
 use Rattle.lexing.specs.Plans.{
-  is-blank, is-letter, is-digit, mark-kind, run, spelled, decimal, token, Item, word, numeral, mark, item, item-then,
-  lexed, lexed-from,
+  is-blank,
+  is-letter,
+  is-digit,
+  mark-kind,
+  run,
+  spelled,
+  decimal,
+  token,
+  Item,
+  word,
+  numeral,
+  mark,
+  item,
+  item-then,
+  lexed,
+  lexed-from,
 }
 use Rattle.lexing.proofs.Runs.{length-run-le, run-behind}
 
@@ -54,8 +68,8 @@ item-within p b bs =
     cond-both (is-letter b) (word p (run is-letter all)) other (Within (length all))
     (λ yes′. word-within _ p (run is-letter all) (some-run is-letter b bs yes′) (length-run-le is-letter all))
     (λ _. cond-both (is-digit b) (numeral p (run is-digit all)) (mark p (mark-kind b)) (Within (length all))
-        (λ yes′. numeral-within _ p (run is-digit all) (some-run is-digit b bs yes′) (length-run-le is-digit all))
-        (λ _. mark-within _ p (mark-kind b) (omega arith)))
+    (λ yes′. numeral-within _ p (run is-digit all) (some-run is-digit b bs yes′) (length-run-le is-digit all))
+    (λ _. mark-within _ p (mark-kind b) (omega arith)))
 
 lexed-skip : (p n : ℕ) (bs : List ℕ) → lexed p n bs ≡ lexed (p + n) 0 (drop n bs)
 unfolding lexed
@@ -69,8 +83,8 @@ module _ (p b : ℕ) (bs : List ℕ) where
   blank-front e = cond-true (is-blank b) (lexed (p + 1) 0 bs) _ e
 
   item-front :
-    is-blank b ≡ false
-    → lexed p 0 (b ∷ bs) ≡ item-then (item p b (b ∷ bs)) (λ n. lexed (p + 1) (pred n) bs)
+      is-blank b ≡ false
+      → lexed p 0 (b ∷ bs) ≡ item-then (item p b (b ∷ bs)) (λ n. lexed (p + 1) (pred n) bs)
   unfolding lexed
   item-front e = cond-false (is-blank b) _ (item-then (item p b (b ∷ bs)) (λ n. lexed (p + 1) (pred n) bs)) e
 
@@ -89,12 +103,12 @@ module _ (plan : List ℕ) (p : ℕ) where
   pub here-within : p < length plan → (t : Token) → Ok t ≡ here → (1 ≤ t .length) × (p + t .length ≤ length plan)
   here-within h t e =
       let w = subst (Within (length (getD plan p 0 ∷ drop (p + 1) plan))) (sym (e ∙ split h))
-            (item-within p (getD plan p 0) (drop (p + 1) plan)) in
+      (item-within p (getD plan p 0) (drop (p + 1) plan)) in
       (w .0, omega (arith, w .1, length-drop (p + 1) plan))
 
   at-item :
-    p < length plan → is-blank (getD plan p 0) ≡ false
-    → lexed-from p plan ≡ item-then here (λ n. lexed (p + 1) (pred n) (drop (p + 1) plan))
+      p < length plan → is-blank (getD plan p 0) ≡ false
+      → lexed-from p plan ≡ item-then here (λ n. lexed (p + 1) (pred n) (drop (p + 1) plan))
   at-item h e =
       ap (lexed p 0) (drop-more plan p 0 h) ∙ item-front p (getD plan p 0) (drop (p + 1) plan) e
       ∙ ap (λ i. item-then i (λ n. lexed (p + 1) (pred n) (drop (p + 1) plan))) (sym (split h))
@@ -111,12 +125,12 @@ module _ (plan : List ℕ) (p : ℕ) where
 
 -- with the blanks at place p passed over
 skip-blanks :
-  (p : ℕ) (bs : List ℕ) → lexed (p + length (run is-blank bs)) 0 (drop (length (run is-blank bs)) bs) ≡ lexed p 0 bs
+    (p : ℕ) (bs : List ℕ) → lexed (p + length (run is-blank bs)) 0 (drop (length (run is-blank bs)) bs) ≡ lexed p 0 bs
 skip-blanks p [] = ap (λ q. lexed q 0 []) (add-zero p)
 skip-blanks p (b ∷ bs) =
     cond-both (is-blank b) (b ∷ run is-blank bs) [] (λ r. lexed (p + length r) 0 (drop (length r) (b ∷ bs)) ≡ lexed p 0 (b ∷ bs))
     (λ yes′. ap (λ q. lexed q 0 (drop (length (run is-blank bs)) bs)) (omega arith)
-        ∙ skip-blanks (p + 1) bs ∙ sym (blank-front p b bs yes′))
+    ∙ skip-blanks (p + 1) bs ∙ sym (blank-front p b bs yes′))
     (λ _. ap (λ q. lexed q 0 (b ∷ bs)) (add-zero p))
 
 module _ (plan : List ℕ) (p n : ℕ) (h : n ≡ length (run is-blank (drop p plan))) where
@@ -136,15 +150,15 @@ module _ (plan : List ℕ) (p n : ℕ) (h : n ≡ length (run is-blank (drop p p
 -- the plan at an item
 module _ (plan : List ℕ) (p : ℕ) (h : p < length plan) (e : is-blank (getD plan p 0) ≡ false) where
   pub token-there :
-    (t : Token) → Ok t ≡ here plan p
-    → lexed-from p plan ≡ record {
-      tokens = t ∷ lexed-from (p + t .length) plan .tokens;
-      ending = lexed-from (p + t .length) plan .ending;
-    }
+      (t : Token) → Ok t ≡ here plan p
+      → lexed-from p plan ≡ record {
+        tokens = t ∷ lexed-from (p + t .length) plan .tokens;
+        ending = lexed-from (p + t .length) plan .ending;
+      }
   token-there t i =
       at-item plan p h e ∙ ap (λ r. item-then r (λ n. lexed (p + 1) (pred n) (drop (p + 1) plan))) (sym i)
       ∙ ap (λ s. record { tokens = t ∷ s .tokens; ending = s .ending })
-          (behind-token plan p (t .length) (here-within plan p h t i .0))
+      (behind-token plan p (t .length) (here-within plan p h t i .0))
 
   pub fault-there : (f : SourceFault) → Err f ≡ here plan p → lexed-from p plan ≡ record { tokens = []; ending = fault f }
   fault-there f i =

@@ -15,8 +15,23 @@ use Rattle.syntax.specs.Grammar.{Kind, Kinded}
 use Rattle.source.specs.declared.SourceFault.the-variants.{LongWord, LargeNumber}
 use Rattle.source.specs.Streams.{Stream}
 use Rattle.lexing.specs.Plans.{
-  is-blank, is-letter, is-digit, index-from, mark-kind, run, spelled, decimal, token, Item, word, numeral, mark, item,
-  item-then, lexed, lexed-from,
+  is-blank,
+  is-letter,
+  is-digit,
+  index-from,
+  mark-kind,
+  run,
+  spelled,
+  decimal,
+  token,
+  Item,
+  word,
+  numeral,
+  mark,
+  item,
+  item-then,
+  lexed,
+  lexed-from,
 }
 
 -- an index between low and high, or none
@@ -57,12 +72,12 @@ item-kinded p b bs =
     cond-both (is-letter b) (word p (run is-letter bs)) other KindedItem
     (λ _. word-kinded p (run is-letter bs))
     (λ _. cond-both (is-digit b) (numeral p (run is-digit bs)) (mark p (mark-kind b)) KindedItem
-        (λ _. numeral-kinded p (run is-digit bs))
-        (λ _. mark-kinded p (mark-kind b) (index-between 17 3 (codes "+-*/(),;:=<>{}") b 3 (omega arith) (omega arith))))
+    (λ _. numeral-kinded p (run is-digit bs))
+    (λ _. mark-kinded p (mark-kind b) (index-between 17 3 (codes "+-*/(),;:=<>{}") b 3 (omega arith) (omega arith))))
 
 then-kinded :
-  (i : Item) (onward : ℕ → Stream) → KindedItem i → ((n : ℕ) → Kinded (onward n .tokens))
-  → Kinded (item-then i onward .tokens)
+    (i : Item) (onward : ℕ → Stream) → KindedItem i → ((n : ℕ) → Kinded (onward n .tokens))
+    → Kinded (item-then i onward .tokens)
 then-kinded (Ok t) onward here behind = (here, behind (t .length))
 then-kinded (Err f) onward here behind = tt
 

@@ -21,18 +21,60 @@ use Rattle.source.specs.declared.SourceFault.the-variants.{UnknownByte, LongWor
 use Rattle.source.specs.Faults.{place}
 use Rattle.source.specs.Streams.{Ending, end, fault, Stream}
 use Rattle.lexing.specs.Plans.{
-  is-blank, is-letter, is-digit, index-from, mark-kind, run, spelled, decimal, token, Item, word, numeral, mark, item,
+  is-blank,
+  is-letter,
+  is-digit,
+  index-from,
+  mark-kind,
+  run,
+  spelled,
+  decimal,
+  token,
+  Item,
+  word,
+  numeral,
+  mark,
+  item,
   lexed-from,
 }
 use Rattle.lexing.specs.Reading.{
-  byte, text, Passes, Run, behind, TokenAt, a-word, a-number, a-mark, FaultAt, an-unknown-byte, a-long-word,
-  a-large-number, Reads, TheReading,
+  byte,
+  text,
+  Passes,
+  Run,
+  behind,
+  TokenAt,
+  a-word,
+  a-number,
+  a-mark,
+  FaultAt,
+  an-unknown-byte,
+  a-long-word,
+  a-large-number,
+  Reads,
+  TheReading,
 }
 use Rattle.lexing.proofs.Runs.{
-  length-run-le, run-passes, run-behind, run-is, run-more, word-ok, word-err, numeral-ok, numeral-err,
+  length-run-le,
+  run-passes,
+  run-behind,
+  run-is,
+  run-more,
+  word-ok,
+  word-err,
+  numeral-ok,
+  numeral-err,
 }
 use Rattle.lexing.proofs.Lexed.{
-  here, here-within, at-blank, end-there, token-there, fault-there, behind-blanks, no-blank-there, blanks-within,
+  here,
+  here-within,
+  at-blank,
+  end-there,
+  token-there,
+  fault-there,
+  behind-blanks,
+  no-blank-there,
+  blanks-within,
 }
 
 module _ (plan : List ℕ) where
@@ -49,10 +91,10 @@ module _ (plan : List ℕ) where
       some = omega (arith, ap length (run-more f plan p lt first));
       within = omega (arith, length-run-le f (drop p plan), length-drop p plan);
       passes = λ k from to.
-        let j : k ≡ p + (k - p) = omega arith in
-        ap (λ i. f (getD plan i 0)) j ∙ sym (ap f (there (k - p))) ∙ run-passes f (drop p plan) (k - p) (omega arith);
+          let j : k ≡ p + (k - p) = omega arith in
+          ap (λ i. f (getD plan i 0)) j ∙ sym (ap f (there (k - p))) ∙ run-passes f (drop p plan) (k - p) (omega arith);
       stops = λ to.
-        sym (ap f (there (length bytes))) ∙ run-behind f (drop p plan) (omega (arith, length-drop p plan));
+          sym (ap f (there (length bytes))) ∙ run-behind f (drop p plan) (omega (arith, length-drop p plan));
     }
 
   -- a run between places is the one that the meaning takes
@@ -61,7 +103,7 @@ module _ (plan : List ℕ) where
       run-is f (drop p plan) (q - p) (omega (arith, r .some, r .within, length-drop p plan))
       (λ k h. ap f (getD-drop p plan k 0) ∙ r .passes (p + k) (omega arith) (omega (arith, r .some)))
       (λ h. ap f (getD-drop p plan (q - p) 0) ∙ ap (λ i. f (getD plan i 0)) (omega (arith, r .some))
-          ∙ r .stops (omega (arith, r .some, length-drop p plan)))
+      ∙ r .stops (omega (arith, r .some, length-drop p plan)))
 
   text-length : (f : ℕ → Bool) (p q : ℕ) → Run plan f p q → length (text plan p q) ≡ q - p
   text-length f p q r = length-take-le (q - p) (drop p plan) (omega (arith, r .within, length-drop p plan))
@@ -92,8 +134,8 @@ module _ (plan : List ℕ) where
 
     module _ (blank : is-blank (getD plan p 0) ≡ false) where
       mark-at :
-        is-letter (getD plan p 0) ≡ false → is-digit (getD plan p 0) ≡ false
-        → (k : Option ℕ) → mark-kind (getD plan p 0) ≡ k → ItemAt p (mark p k)
+          is-letter (getD plan p 0) ≡ false → is-digit (getD plan p 0) ≡ false
+          → (k : Option ℕ) → mark-kind (getD plan p 0) ≡ k → ItemAt p (mark p k)
       mark-at letter digit (Some k) e = (refl, a-mark lt refl e refl)
       mark-at letter digit None e = (refl, an-unknown-byte p lt blank letter digit e)
 
@@ -104,25 +146,26 @@ module _ (plan : List ℕ) where
           let other = cond (is-digit b) (numeral p (run is-digit bs)) (mark p (mark-kind b)) in
           cond-both (is-letter b) (word p (run is-letter bs)) other (ItemAt p) word-at
           (λ letter. cond-both (is-digit b) (numeral p (run is-digit bs)) (mark p (mark-kind b)) (ItemAt p) numeral-at
-              (λ digit. mark-at letter digit (mark-kind b) refl))
+          (λ digit. mark-at letter digit (mark-kind b) refl))
 
   abbrev Reading : ℕ → Stream → Type 0
   Reading p s = Reads plan p (s .tokens) (s .ending)
 
   -- with blanks from place p up to place q, and an item there
   read-item :
-    (p q : ℕ) → p ≤ q → Passes plan is-blank p q → q < length plan → is-blank (getD plan q 0) ≡ false
-    → (i : Item) → i ≡ here plan q → ItemAt q i
-    → ((r : ℕ) → q < r → r ≤ length plan → Reading r (lexed-from r plan)) → Reading p (lexed-from q plan)
+      (p q : ℕ) → p ≤ q → Passes plan is-blank p q → q < length plan → is-blank (getD plan q 0) ≡ false
+      → (i : Item) → i ≡ here plan q → ItemAt q i
+      → ((r : ℕ) → q < r → r ≤ length plan → Reading r (lexed-from r plan)) → Reading p (lexed-from q plan)
   read-item p q le blanks lt blank (Ok t) i at onward =
       let inside = here-within plan q lt t i in
       let next = onward (q + t .length) (omega (arith, inside .0)) (inside .1) in
       let back = sym (at .0) in
-      subst (Reading p) (sym (token-there plan q lt blank t i))
-      ( omega (arith, back)
-      , subst (λ k. Passes plan is-blank p k) back blanks
-      , at .1
-      , subst (λ k. Reading (k + t .length) (lexed-from (q + t .length) plan)) back next )
+      subst (Reading p) (sym (token-there plan q lt blank t i)) (
+        omega (arith, back),
+        subst (λ k. Passes plan is-blank p k) back blanks,
+        at .1,
+        subst (λ k. Reading (k + t .length) (lexed-from (q + t .length) plan)) back next,
+      )
   read-item p q le blanks lt blank (Err f) i at onward =
       subst (Reading p) (sym (fault-there plan q lt blank f i)) (q, le, blanks, (sym (at .0), at .1))
 
@@ -140,12 +183,12 @@ module _ (plan : List ℕ) where
       let le : p ≤ p + n = omega arith in
       subst (Reading p) (behind-blanks plan p n refl)
       (⊎-elim
-        (λ lt. let blank = no-blank-there plan p n refl lt in
-            read-item p (p + n) le (blanks-pass p) lt blank (here plan (p + n)) refl (item-at (p + n) lt blank)
-            (λ r behind within. reads-from steps r within (omega arith)))
-        (λ ge. let at : p + n ≡ length plan = omega (arith, blanks-within plan p n refl within) in
-            subst (Reading p) (sym (end-there plan (p + n) ge)) (p + n, le, blanks-pass p, at))
-        (cases-lt (p + n) (length plan)))
+      (λ lt. let blank = no-blank-there plan p n refl lt in
+      read-item p (p + n) le (blanks-pass p) lt blank (here plan (p + n)) refl (item-at (p + n) lt blank)
+      (λ r behind within. reads-from steps r within (omega arith)))
+      (λ ge. let at : p + n ≡ length plan = omega (arith, blanks-within plan p n refl within) in
+      subst (Reading p) (sym (end-there plan (p + n) ge)) (p + n, le, blanks-pass p, at))
+      (cases-lt (p + n) (length plan)))
 
 -- the classes of bytes do not meet
 letter-blank : (b : ℕ) → is-letter b ≡ true → is-blank b ≡ false
@@ -224,11 +267,11 @@ module _ (plan : List ℕ) where
         lt = omega (arith, r .some, r .within);
         blank = digit-blank (getD plan p 0) digit;
         is = sym (item-numeral p (getD plan p 0) (drop p plan) (digit-letter (getD plan p 0) digit) digit
-          ∙ ap (numeral p) (run-there plan is-digit p q r));
+            ∙ ap (numeral p) (run-there plan is-digit p q r));
       }
 
   mark-stands :
-    (p k : ℕ) → p < length plan → mark-kind (getD plan p 0) ≡ Some k → Stands p (Ok (token k p 1 0))
+      (p k : ℕ) → p < length plan → mark-kind (getD plan p 0) ≡ Some k → Stands p (Ok (token k p 1 0))
   mark-stands p k lt e =
       let b = getD plan p 0 in
       record {
@@ -239,7 +282,7 @@ module _ (plan : List ℕ) where
 
   -- a token by its parts
   as-token :
-    (t : Token) (k n v : ℕ) → t .kind ≡ k → t .length ≡ n → t .value ≡ v → token k (t .place) n v ≡ t
+      (t : Token) (k n v : ℕ) → t .kind ≡ k → t .length ≡ n → t .value ≡ v → token k (t .place) n v ≡ t
   as-token t k n v kind length value =
       sym (ap₂ (λ x y. token x (t .place) y (t .value)) kind length ∙ ap (token k (t .place) n) value)
 
@@ -271,7 +314,7 @@ module _ (plan : List ℕ) where
 
   -- blanks from place p up to place q mean nothing
   over-blanks :
-    (n p : ℕ) → p + n ≤ length plan → Passes plan is-blank p (p + n) → lexed-from p plan ≡ lexed-from (p + n) plan
+      (n p : ℕ) → p + n ≤ length plan → Passes plan is-blank p (p + n) → lexed-from p plan ≡ lexed-from (p + n) plan
   over-blanks zero p within blanks = ap (λ k. lexed-from k plan) (sym (add-zero p))
   over-blanks (suc n) p within blanks =
       at-blank plan p (omega arith) (blanks p (omega arith) (omega arith))
@@ -279,13 +322,13 @@ module _ (plan : List ℕ) where
       ∙ ap (λ k. lexed-from k plan) (omega arith)
 
   up-to :
-    (p q : ℕ) → p ≤ q → q ≤ length plan → Passes plan is-blank p q → lexed-from p plan ≡ lexed-from q plan
+      (p q : ℕ) → p ≤ q → q ≤ length plan → Passes plan is-blank p q → lexed-from p plan ≡ lexed-from q plan
   up-to p q le within blanks =
       let e : p + (q - p) ≡ q = omega arith in
       over-blanks (q - p) p (omega arith) (subst (Passes plan is-blank p) (sym e) blanks) ∙ ap (λ k. lexed-from k plan) e
 
   reads-as :
-    (ts : List Token) (e : Ending) (p : ℕ) → Reads plan p ts e → record { tokens = ts; ending = e } ≡ lexed-from p plan
+      (ts : List Token) (e : Ending) (p : ℕ) → Reads plan p ts e → record { tokens = ts; ending = e } ≡ lexed-from p plan
   reads-as [] end p (q, le, blanks, at) =
       sym (up-to p q le (omega (arith, at)) blanks ∙ end-there plan q (omega (arith, at)))
   reads-as [] (fault f) p (q, le, blanks, at) =

@@ -47,14 +47,14 @@ module _ (f : ℕ → Bool) where
   run-behind (b ∷ bs) h =
       ⊎-elim
       (λ pass. ap (λ r. f (getD (b ∷ bs) (length r) 0)) (front-yes b bs pass)
-          ∙ run-behind bs (omega (arith, ap length (front-yes b bs pass))))
+      ∙ run-behind bs (omega (arith, ap length (front-yes b bs pass))))
       (λ stop. ap (λ r. f (getD (b ∷ bs) (length r) 0)) (front-no b bs stop) ∙ stop)
       (cases-bool (f b))
 
   -- a front of which every byte passes, with a byte behind it that does not, is the run
   pub run-is :
-    (bs : List ℕ) (n : ℕ) → n ≤ length bs → ((k : ℕ) → k < n → f (getD bs k 0) ≡ true)
-    → (n < length bs → f (getD bs n 0) ≡ false) → run f bs ≡ take n bs
+      (bs : List ℕ) (n : ℕ) → n ≤ length bs → ((k : ℕ) → k < n → f (getD bs k 0) ≡ true)
+      → (n < length bs → f (getD bs n 0) ≡ false) → run f bs ≡ take n bs
   run-is [] zero few passes stops = refl
   run-is [] (suc n) few passes stops = absurd (omega arith)
   run-is (b ∷ bs) zero few passes stops = front-no b bs (stops (omega arith))
@@ -98,8 +98,8 @@ module _ (f : ℕ → Bool) (value : ℕ → List ℕ → ℕ) (bs : List ℕ) w
 
   module _ (i v : ℕ) (s : SoFar f value bs i v) where
     pub so-far-more :
-      (w : ℕ) → i < length bs → f (getD bs i 0) ≡ true
-      → ((ds : List ℕ) → value v (getD bs i 0 ∷ ds) ≡ value w ds) → SoFar f value bs (i + 1) w
+        (w : ℕ) → i < length bs → f (getD bs i 0) ≡ true
+        → ((ds : List ℕ) → value v (getD bs i 0 ∷ ds) ≡ value w ds) → SoFar f value bs (i + 1) w
     so-far-more w h pass step =
         let e = run-more f bs i h pass in
         record { left = omega (arith, ap length e); comes-to = sym (step _) ∙ sym (ap (value v) e) ∙ s .comes-to }
@@ -134,8 +134,8 @@ module _ (bs : List ℕ) where
 
   module _ (i v : ℕ) (s : WordSoFar bs i v) where
     pub word-more :
-      i < length bs → is-letter (getD bs i 0) ≡ true → i < 8 → getD bs i 0 < 256
-      → WordSoFar bs (i + 1) (v * 256 + getD bs i 0)
+        i < length bs → is-letter (getD bs i 0) ≡ true → i < 8 → getD bs i 0 < 256
+        → WordSoFar bs (i + 1) (v * 256 + getD bs i 0)
     word-more h pass short low = record {
       so-far = so-far-more is-letter spelled-after bs i v (s .so-far) (v * 256 + getD bs i 0) h pass (λ ds. refl);
       few = omega arith;
@@ -148,7 +148,7 @@ module _ (bs : List ℕ) where
         omega (arith, room i v b (s .small) low)
 
     pub word-long :
-      (p : ℕ) → i < length bs → is-letter (getD bs i 0) ≡ true → 8 ≤ i → Err (LongWord p 0) ≡ word p (run is-letter bs)
+        (p : ℕ) → i < length bs → is-letter (getD bs i 0) ≡ true → 8 ≤ i → Err (LongWord p 0) ≡ word p (run is-letter bs)
     word-long p h pass long =
         word-err p (run is-letter bs) (omega (arith, so-far-longer is-letter spelled-after bs i v (s .so-far) h pass))
 
@@ -170,20 +170,20 @@ module _ (bs : List ℕ) where
     next = so-far-more is-digit decimal-after bs i v (s .so-far) (v * 10 + digit (getD bs i 0)) h pass (λ ds. refl)
 
     pub numeral-more :
-      v * 10 + digit (getD bs i 0) ≤ 4294967295 → NumeralSoFar bs (i + 1) (v * 10 + digit (getD bs i 0))
+        v * 10 + digit (getD bs i 0) ≤ 4294967295 → NumeralSoFar bs (i + 1) (v * 10 + digit (getD bs i 0))
     numeral-more low = record { so-far = next; small = low }
 
     -- what more digits come to is no less
     pub numeral-large :
-      (p : ℕ) → 4294967295 < v * 10 + digit (getD bs i 0) → Err (LargeNumber p 0) ≡ numeral p (run is-digit bs)
+        (p : ℕ) → 4294967295 < v * 10 + digit (getD bs i 0) → Err (LargeNumber p 0) ≡ numeral p (run is-digit bs)
     numeral-large p large =
         let rest = map digit (run is-digit (drop (i + 1) bs)) in
         let more = numberAfter-ge 10 (v * 10 + digit (getD bs i 0)) rest (omega arith) in
         numeral-err p (run is-digit bs) (omega (arith, more, next .comes-to))
 
   pub numeral-done :
-    (i v : ℕ) (s : NumeralSoFar bs i v) (p : ℕ) → run is-digit (drop i bs) ≡ []
-    → Ok (token 2 p i v) ≡ numeral p (run is-digit bs)
+      (i v : ℕ) (s : NumeralSoFar bs i v) (p : ℕ) → run is-digit (drop i bs) ≡ []
+      → Ok (token 2 p i v) ≡ numeral p (run is-digit bs)
   numeral-done i v s p e =
       let all = so-far-all is-digit decimal-after bs i v (s .so-far) e in
       ap₂ (λ n w. Ok (token 2 p n w)) (all .0) (all .1)

@@ -15,7 +15,14 @@ use Rattle.source.specs.declared.SourceFault.{SourceFault}
 use Rattle.source.specs.Streams.{Stream, answer, dropped}
 use Rattle.lexing.specs.Plans.{is-blank, run, item, lexed-from}
 use Rattle.lexing.proofs.Lexed.{
-  here, here-within, end-there, token-there, fault-there, behind-blanks, no-blank-there, blanks-within,
+  here,
+  here-within,
+  end-there,
+  token-there,
+  fault-there,
+  behind-blanks,
+  no-blank-there,
+  blanks-within,
 }
 
 -- the bytes from place p on, as a cut gives them
@@ -41,7 +48,7 @@ module _ (plan : List ℕ) (p n : ℕ) (h : n ≡ length (run is-blank (rest pla
     pub after : lexed-from q plan ≡ dropped (lexed-from p plan)
 
   step :
-    (s : Stream) (q : ℕ) → lexed-from (p + n) plan ≡ s → lexed-from q plan ≡ dropped s → Step (answer s) q
+      (s : Stream) (q : ℕ) → lexed-from (p + n) plan ≡ s → lexed-from q plan ≡ dropped s → Step (answer s) q
   step s q here behind =
       let same = sym here ∙ behind-blanks plan p n count in
       record { value = ap answer same; after = behind ∙ ap dropped same }
@@ -51,7 +58,7 @@ module _ (plan : List ℕ) (p n : ℕ) (h : n ≡ length (run is-blank (rest pla
 
   module _ (lt : p + n < length plan) where
     pub at-fault :
-      (f : SourceFault) → Err f ≡ item (p + n) (getD (rest plan (p + n)) 0 0) (rest plan (p + n)) → Step (Err f) (p + n)
+        (f : SourceFault) → Err f ≡ item (p + n) (getD (rest plan (p + n)) 0 0) (rest plan (p + n)) → Step (Err f) (p + n)
     at-fault f i =
         let there = fault-there plan (p + n) lt (no-blank-there plan p n count lt) f (i ∙ same-item plan (p + n)) in
         step _ (p + n) there there

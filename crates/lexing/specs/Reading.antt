@@ -39,24 +39,24 @@ module _ (plan : List ℕ) where
   -- what the plan has where it has the token t
   pub data TokenAt (t : Token) : Type 0 where
     a-word :
-      Run is-letter (t .place) (behind t) → t .length ≤ longest-word
-      → t .kind ≡ 1 → t .value ≡ spelled (text (t .place) (behind t)) → TokenAt t
+        Run is-letter (t .place) (behind t) → t .length ≤ longest-word
+        → t .kind ≡ 1 → t .value ≡ spelled (text (t .place) (behind t)) → TokenAt t
     a-number :
-      Run is-digit (t .place) (behind t) → t .value ≤ largest-number
-      → t .kind ≡ 2 → t .value ≡ decimal (text (t .place) (behind t)) → TokenAt t
+        Run is-digit (t .place) (behind t) → t .value ≤ largest-number
+        → t .kind ≡ 2 → t .value ≡ decimal (text (t .place) (behind t)) → TokenAt t
     a-mark :
-      t .place < length plan → t .length ≡ 1
-      → mark-kind (byte (t .place)) ≡ Some (t .kind) → t .value ≡ 0 → TokenAt t
+        t .place < length plan → t .length ≡ 1
+        → mark-kind (byte (t .place)) ≡ Some (t .kind) → t .value ≡ 0 → TokenAt t
 
   -- what it has where it has a fault
   pub data FaultAt : SourceFault → Type 0 where
     an-unknown-byte :
-      (p : ℕ) → p < length plan → is-blank (byte p) ≡ false → is-letter (byte p) ≡ false → is-digit (byte p) ≡ false
-      → mark-kind (byte p) ≡ None → FaultAt (UnknownByte p 0)
+        (p : ℕ) → p < length plan → is-blank (byte p) ≡ false → is-letter (byte p) ≡ false → is-digit (byte p) ≡ false
+        → mark-kind (byte p) ≡ None → FaultAt (UnknownByte p 0)
     a-long-word :
-      (p q : ℕ) → Run is-letter p q → p + longest-word < q → FaultAt (LongWord p 0)
+        (p q : ℕ) → Run is-letter p q → p + longest-word < q → FaultAt (LongWord p 0)
     a-large-number :
-      (p q : ℕ) → Run is-digit p q → largest-number < decimal (text p q) → FaultAt (LargeNumber p 0)
+        (p q : ℕ) → Run is-digit p q → largest-number < decimal (text p q) → FaultAt (LargeNumber p 0)
 
   -- where the plan ends in this way
   abbrev pub EndsAt : Ending → ℕ → Type 0

@@ -72,7 +72,7 @@ to-test : (k : ℕ) → Kind k → is-kind k ≡ true
 to-test k h = and-from (leb 1 k) (leb k 31) (le-leb 1 k (h .0)) (le-leb k 31 (omega (arith, h .1)))
 
 next-kind :
-  (ts : List Token) (e : Ending) (t : Token) → Kinded ts → Ok (Some t) ≡ next ts e → is-kind (t .kind) ≡ true
+    (ts : List Token) (e : Ending) (t : Token) → Kinded ts → Ok (Some t) ≡ next ts e → is-kind (t .kind) ≡ true
 next-kind [] end t h a = let z : _≡_ {A = ℕ} 0 1 = cc in absurd (omega arith)
 next-kind [] (fault f) t h a = let z : _≡_ {A = ℕ} 0 1 = cc in absurd (omega arith)
 next-kind (x ∷ ts) e t h a = let same : t ≡ x = cc in ap (λ u. is-kind (u .kind)) same ∙ to-test (x .kind) (h .0)

@@ -16,8 +16,8 @@ pub ghost-self : need.ghost-self
 ghost-self c = let s = c .args .self .now in (s .short, (fits c, (s .kind, tt)))
 
 inside :
-  (c : need.Else-self)
-  → c .args .self .now .at + c .blanks .result < length (c .args .self .now .plan .now)
+    (c : need.Else-self)
+    → c .args .self .now .at + c .blanks .result < length (c .args .self .now .plan .now)
 inside c =
     let s = c .args .self .now in
     let fit = blanks-fit (s .plan .now) (s .at) (c .blanks .result) (c .blanks .ensures) (s .within) in

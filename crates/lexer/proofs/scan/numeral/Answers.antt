@@ -13,9 +13,10 @@ returns-then-value-gt4294967295 c =
 
 pub loop-byte-again : need.loop-byte-again
 loop-byte-again c =
-    let pass = sym (c .is-ascii-digit .ensures .value) ∙ c .if-not-is-ascii-digit .left in
-    ( numeral-more _ _ _ (c .loop-byte .inv .0) (c .loop-byte-test .taken) pass (c .if-value-gt4294967295 .left)
-    , omega (arith, c .loop-byte .inv .1) )
+    let pass = sym (c .is-ascii-digit .ensures .value) ∙ c .if-not-is-ascii-digit .left in (
+      numeral-more _ _ _ (c .loop-byte .inv .0) (c .loop-byte-test .taken) pass (c .if-value-gt4294967295 .left),
+      omega (arith, c .loop-byte .inv .1),
+    )
 
 pub returns-after-loop-byte : need.returns-after-loop-byte
 returns-after-loop-byte c =

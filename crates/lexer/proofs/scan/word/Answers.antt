@@ -33,9 +33,10 @@ add-value c =
 pub loop-byte-again : need.loop-byte-again
 loop-byte-again c =
     let pass = sym (c .is-ascii-lowercase .ensures .value) ∙ c .if-not-is-ascii-lowercase .left in
-    let at = need.at·loop-byte-again c .Else-length-eq8 in
-    ( word-more _ _ _ (c .loop-byte .inv .0) (c .loop-byte-test .taken) pass (few at) (low at)
-    , omega (arith, c .loop-byte .inv .1) )
+    let at = need.at·loop-byte-again c .Else-length-eq8 in (
+      word-more _ _ _ (c .loop-byte .inv .0) (c .loop-byte-test .taken) pass (few at) (low at),
+      omega (arith, c .loop-byte .inv .1),
+    )
 
 pub returns-after-loop-byte : need.returns-after-loop-byte
 returns-after-loop-byte c =
