@@ -20,7 +20,10 @@ number AlreadyListed = 14
 number NoRoom = 20
 
 abbrev pub place : KeywordRefusal → ℕ
-place r = 0
+place KindOutOfRange = 0
+place NoSpelling = 0
+place AlreadyListed = 0
+place NoRoom = 0
 
 -- how many keywords there may be
 abbrev pub most : ℕ

@@ -25,6 +25,11 @@ impl KeywordRefusal {
     pub fn place(self) -> u32
         ensures { λ r. ⌜ r ≡ placeOf self ⌝ }
     {
-        0
+        match self {
+            KeywordRefusal::KindOutOfRange => 0,
+            KeywordRefusal::NoSpelling => 0,
+            KeywordRefusal::AlreadyListed => 0,
+            KeywordRefusal::NoRoom => 0,
+        }
     }
 }

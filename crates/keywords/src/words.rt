@@ -10,6 +10,12 @@ use streams::Keyword;
 use streams::is_kind;
 use syntax::Token;
 
+// What stands in a place that no keyword has yet.
+const VACANT: Keyword = Keyword {
+    spelling: 0,
+    kind: 0,
+};
+
 // Up to 16 keywords, in the order in which they were listed: the first `count` of the array.
 #[derive(Drop)]
 pub(crate) struct Words {
@@ -24,10 +30,7 @@ impl Words {
         ensures { λ r. ⌜ take (r .count) (r .list) ≡ [] ⌝ }
     {
         Words {
-            list: [Keyword {
-                spelling: 0,
-                kind: 0,
-            }; 16],
+            list: [VACANT; 16],
             count: 0,
         }
     }

@@ -15,7 +15,7 @@ ghost use Rattle.lexer.specs.Opening.{open-answer, open-after};
 use crate::ahead::Ahead;
 use crate::scan::blanks;
 use crate::scan::item;
-pub use opening::PlanTooLong;
+pub use opening::PlanRefusal;
 use source::Layered;
 use source::Source;
 use source::SourceFault;
@@ -51,7 +51,7 @@ impl<'a> Lexer<'a> {
     }
 
     /// Turns to the whole of a plan, or refuses it and stays as it is.
-    pub fn open(&mut self, plan: &'a [u8]) -> Result<(), PlanTooLong>
+    pub fn open(&mut self, plan: &'a [u8]) -> Result<(), PlanRefusal>
         ensures answer { λ r. ⌜ r ≡ open-answer (now (plan .entry)) ⌝ }
         ensures reading { λ r. ⌜ (r ≡ Ok tt → TheReading (now (plan .entry))
             (looking (now (now (self .exit) .plan)) (now (self .exit) .at) (now (self .exit) .ahead))) ⌝ }
@@ -61,7 +61,7 @@ impl<'a> Lexer<'a> {
             (looking (now (now (self .entry) .plan)) (now (self .entry) .at) (now (self .entry) .ahead)) ⌝ }
     {
         if plan.len() > 65_535 {
-            return Err(PlanTooLong);
+            return Err(PlanRefusal::TooLong);
         }
         *self = Lexer {
             plan,
@@ -102,7 +102,7 @@ pub impl Layered for Lexer<'_> as LexerLayered {
     fn layer_number() -> u8
         ensures { λ r. ⌜ r ≡ 0 ⌝ }
     {
-        0
+        source::BOTTOM
     }
 }
 

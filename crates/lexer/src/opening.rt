@@ -1,20 +1,26 @@
 ghost use mathlib.Core.Path.{_≡_};
 ghost use Rattle.lexer.specs.Opening.{number as numberOf, place as placeOf};
 
-/// The plan has more than 65,535 bytes.
+/// Why a plan is not opened: it has more than 65,535 bytes.
 #[derive(Clone, Copy, PartialEq, Eq, Debug)]
-pub struct PlanTooLong;
+pub enum PlanRefusal {
+    TooLong,
+}
 
-impl PlanTooLong {
+impl PlanRefusal {
     pub fn number(self) -> u8
         ensures { λ r. ⌜ r ≡ numberOf self ⌝ }
     {
-        8
+        match self {
+            PlanRefusal::TooLong => 8,
+        }
     }
 
     pub fn place(self) -> u32
         ensures { λ r. ⌜ r ≡ placeOf self ⌝ }
     {
-        0
+        match self {
+            PlanRefusal::TooLong => 0,
+        }
     }
 }

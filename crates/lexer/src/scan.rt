@@ -3,6 +3,7 @@ ghost use Prim.Native.Nat.{_≤_, _<_};
 ghost use lib.ListN.{length, getD};
 ghost use Rattle.lexing.specs.Plans.{is-blank, is-letter, is-digit, mark-kind, run};
 ghost use Rattle.lexing.specs.Plans.{word as wordOf, numeral as numeralOf, item as itemOf};
+use source::BOTTOM;
 use source::SourceFault;
 use syntax::Token;
 
@@ -40,7 +41,10 @@ pub(crate) fn item(rest: &[u8], place: u32) -> Result<Token, SourceFault>
                 length: 1,
                 value: 0,
             }),
-            None => Err(SourceFault::UnknownByte { place, layer: 0 }),
+            None => Err(SourceFault::UnknownByte {
+                place,
+                layer: BOTTOM,
+            }),
         },
     }
 }
@@ -79,7 +83,10 @@ pub(crate) fn word(rest: &[u8], place: u32) -> Result<Token, SourceFault>
             break;
         }
         if length == 8 {
-            return Err(SourceFault::LongWord { place, layer: 0 });
+            return Err(SourceFault::LongWord {
+                place,
+                layer: BOTTOM,
+            });
         }
         value = value * 256 + *byte as u64;
         length += 1;
@@ -105,7 +112,10 @@ fn numeral(rest: &[u8], place: u32) -> Result<Token, SourceFault>
         }
         value = value * 10 + (*byte - b'0') as u64;
         if value > 4_294_967_295 {
-            return Err(SourceFault::LargeNumber { place, layer: 0 });
+            return Err(SourceFault::LargeNumber {
+                place,
+                layer: BOTTOM,
+            });
         }
         length += 1;
     }

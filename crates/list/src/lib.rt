@@ -13,7 +13,7 @@ use source::SourceFault;
 use streams::is_kind;
 use syntax::Token;
 
-/// A token of the list, the one at this index, has a kind that is not 1 to 31.
+/// Why a list of tokens is not opened: the token at this index has a kind that is not 1 to 31.
 #[derive(Clone, Copy, PartialEq, Eq, Debug)]
 pub struct KindOutOfRange {
     pub index: u64,
@@ -82,7 +82,7 @@ pub impl Layered for ListSource<'_> as ListLayered {
     fn layer_number() -> u8
         ensures { λ r. ⌜ r ≡ 0 ⌝ }
     {
-        0
+        source::BOTTOM
     }
 }
 

@@ -31,16 +31,65 @@ pub fn show_keywords(rt: &LibcRuntime) -> io::Result<()> {
     let _ = lexer.open(b"on 28526 off on");
     let mut words = Keywords::new(lexer);
     let on = spelling(b"on").unwrap_or(0);
-    show_answer(rt, "on as 0", words.add(Keyword { spelling: on, kind: 0 }))?;
-    show_answer(rt, "on as 32", words.add(Keyword { spelling: on, kind: 32 }))?;
-    show_answer(rt, "no spelling", words.add(Keyword { spelling: 0, kind: 17 }))?;
-    show_answer(rt, "on as 17", words.add(Keyword { spelling: on, kind: 17 }))?;
-    show_answer(rt, "on again", words.add(Keyword { spelling: on, kind: 18 }))?;
+    show_answer(
+        rt,
+        "on as 0",
+        words.add(Keyword {
+            spelling: on,
+            kind: 0,
+        }),
+    )?;
+    show_answer(
+        rt,
+        "on as 32",
+        words.add(Keyword {
+            spelling: on,
+            kind: 32,
+        }),
+    )?;
+    show_answer(
+        rt,
+        "no spelling",
+        words.add(Keyword {
+            spelling: 0,
+            kind: 17,
+        }),
+    )?;
+    show_answer(
+        rt,
+        "on as 17",
+        words.add(Keyword {
+            spelling: on,
+            kind: 17,
+        }),
+    )?;
+    show_answer(
+        rt,
+        "on again",
+        words.add(Keyword {
+            spelling: on,
+            kind: 18,
+        }),
+    )?;
     for spelling in 1..16 {
         let _ = words.add(Keyword { spelling, kind: 31 });
     }
-    show_answer(rt, "on again, when it would be the 17th", words.add(Keyword { spelling: on, kind: 18 }))?;
-    show_answer(rt, "a 17th", words.add(Keyword { spelling: 99, kind: 18 }))?;
+    show_answer(
+        rt,
+        "on again, when it would be the 17th",
+        words.add(Keyword {
+            spelling: on,
+            kind: 18,
+        }),
+    )?;
+    show_answer(
+        rt,
+        "a 17th",
+        words.add(Keyword {
+            spelling: 99,
+            kind: 18,
+        }),
+    )?;
     println!(rt, "a plan under these keywords and a limit of 3")?;
     show(rt, &mut Limit::new(words, 3))
 }

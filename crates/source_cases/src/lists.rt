@@ -6,7 +6,12 @@ use std::io;
 use syntax::Token;
 
 fn token(kind: u8, place: u32) -> Token {
-    Token { kind, place, length: 1, value: 0 }
+    Token {
+        kind,
+        place,
+        length: 1,
+        value: 0,
+    }
 }
 
 // Three tokens of these kinds, or where they are refused.

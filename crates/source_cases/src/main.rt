@@ -16,8 +16,7 @@ mod show;
 // The rows are what the definitions give.
 fn rows_hold()
     ensures { λ _. ⌜ Rows-hold ⌝ }
-{
-}
+{}
 
 fn main(rt: LibcRuntime) -> io::Result<()> {
     rows_hold();

@@ -19,7 +19,10 @@ pub fn show_token(rt: &LibcRuntime, token: Token) -> io::Result<()> {
     let place = token.place;
     let length = token.length;
     let value = token.value;
-    println!(rt, "    kind {kind} at {place}, length {length}, value {value}")
+    println!(
+        rt,
+        "    kind {kind} at {place}, length {length}, value {value}"
+    )
 }
 
 fn show_fault(rt: &LibcRuntime, fault: SourceFault) -> io::Result<()> {

@@ -21,8 +21,8 @@ next-is (x ∷ ts) e t a = let same : x ≡ t = cc in ap (λ u. u ∷ ts) same
 
 -- the token that is taken goes over from those to come to those that are listed
 pub listed-more :
-  (s : Stream) (t : Token) (before all : List Token) → Ok (Some t) ≡ answer s → before ++ s .tokens ≡ all
-  → (before ++ (t ∷ [])) ++ dropped s .tokens ≡ all
+    (s : Stream) (t : Token) (before all : List Token) → Ok (Some t) ≡ answer s → before ++ s .tokens ≡ all
+    → (before ++ (t ∷ [])) ++ dropped s .tokens ≡ all
 listed-more s t before all a h =
     append-assoc before (t ∷ []) (rest (s .tokens))
     ∙ sym (ap (λ ts. before ++ ts) (next-is (s .tokens) (s .ending) t a)) ∙ h

@@ -56,7 +56,12 @@ fn run(rt: &LibcRuntime) -> Result<(), AnyError> {
     let heap = rt.alloc();
     let request = Request::read(heap, env::args(rt)?)?;
     let plan = fs::read(rt, request.path.as_str())?;
-    match list_plan(heap, plan.as_slice(), request.words.as_slice(), request.limit) {
+    match list_plan(
+        heap,
+        plan.as_slice(),
+        request.words.as_slice(),
+        request.limit,
+    ) {
         Ok(listing) => show(rt, &listing)?,
         Err(refusal) => show_refusal(rt, refusal)?,
     }

@@ -6,8 +6,8 @@ ghost use Rattle.tokens.specs.Listings.{Lists, emptied, add-all, Answers};
 use crate::listing::Listing;
 use crate::refusal::Refusal;
 use crate::refusal::RefusalFromAlloc;
-use crate::refusal::RefusalFromWord;
 use crate::refusal::RefusalFromPlan;
+use crate::refusal::RefusalFromWord;
 use keywords::Keyword;
 use keywords::KeywordRefusal;
 use keywords::Keywords;
@@ -33,8 +33,14 @@ pub fn list<S: Source>(heap: Global, source: &mut S) -> Result<Listing, AllocErr
     loop {
         match source.take() {
             Ok(Some(token)) => tokens.push(token)?,
-            Ok(None) => return Ok(Listing { tokens, fault: None }),
-            Err(fault) => return Ok(Listing { tokens, fault: Some(fault) }),
+            Ok(None) => return Ok(Listing {
+                tokens,
+                fault: None,
+            }),
+            Err(fault) => return Ok(Listing {
+                tokens,
+                fault: Some(fault),
+            }),
         }
     }
 }
@@ -53,7 +59,12 @@ fn add_all<S: Source>(keywords: &mut Keywords<S>, words: &[Keyword]) -> Result<(
 }
 
 // The tokens of a plan: the lexer, the keyword layer over it, and the limit layer over that.
-pub fn list_plan(heap: Global, plan: &[u8], words: &[Keyword], limit: u64) -> Result<Listing, Refusal>
+pub fn list_plan(
+    heap: Global,
+    plan: &[u8],
+    words: &[Keyword],
+    limit: u64,
+) -> Result<Listing, Refusal>
     ensures { λ r. ⌜ Answers (now (plan .entry)) (now (words .entry)) limit r ⌝ }
 {
     let mut lexer = Lexer::empty();

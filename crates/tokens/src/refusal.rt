@@ -1,20 +1,20 @@
 ghost use mathlib.Core.Path.{_≡_};
 ghost use Rattle.tokens.specs.declared.refusal.Refusal.the-variants.{Plan, Word, Memory};
 use keywords::KeywordRefusal;
-use lexer::PlanTooLong;
+use lexer::PlanRefusal;
 use std::alloc::AllocError;
 
 // Why a plan is not listed.
 pub enum Refusal {
-    Plan(PlanTooLong),
+    Plan(PlanRefusal),
     Word(KeywordRefusal),
     Memory,
 }
 
-pub impl From<PlanTooLong> for Refusal as RefusalFromPlan {
+pub impl From<PlanRefusal> for Refusal as RefusalFromPlan {
     ghost converts = { λ e r. r ≡ Plan e };
 
-    fn from(refusal: PlanTooLong) -> Refusal {
+    fn from(refusal: PlanRefusal) -> Refusal {
         Refusal::Plan(refusal)
     }
 }

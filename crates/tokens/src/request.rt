@@ -41,5 +41,8 @@ fn keyword(text: &str) -> Result<Keyword, AnyError> {
     let Some(spelling) = spelling(letters.as_bytes()) else {
         return Err("a spelling has 1 to 8 letters a to z".into());
     };
-    Ok(Keyword { spelling, kind: kind.parse::<u8>()? })
+    Ok(Keyword {
+        spelling,
+        kind: kind.parse::<u8>()?,
+    })
 }

@@ -4,7 +4,68 @@ use Rattle.source_cases.proofs.rows_hold.Needs as need
 
 pub returns : need.returns
 unfolding lexed
-returns c =
-    ( refl, refl, (refl, refl, (refl, refl, (refl, refl, (refl, refl, (refl, refl, (refl, refl, (refl, refl
-    , (refl, refl, (refl, refl, (refl, refl, (refl, refl, (refl, refl, (refl, refl, (refl, refl, (refl, refl
-    , tt)))))))))))))))) 
+returns c = (
+  refl,
+  refl,
+  (
+    refl,
+    refl,
+    (
+      refl,
+      refl,
+      (
+        refl,
+        refl,
+        (
+          refl,
+          refl,
+          (
+            refl,
+            refl,
+            (
+              refl,
+              refl,
+              (
+                refl,
+                refl,
+                (
+                  refl,
+                  refl,
+                  (
+                    refl,
+                    refl,
+                    (
+                      refl,
+                      refl,
+                      (
+                        refl,
+                        refl,
+                        (
+                          refl,
+                          refl,
+                          (
+                            refl,
+                            refl,
+                            (
+                              refl,
+                              refl,
+                              (
+                                refl,
+                                refl,
+                                tt,
+                              ),
+                            ),
+                          ),
+                        ),
+                      ),
+                    ),
+                  ),
+                ),
+              ),
+            ),
+          ),
+        ),
+      ),
+    ),
+  ),
+)

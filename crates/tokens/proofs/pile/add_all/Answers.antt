@@ -30,10 +30,11 @@ loop-word-again g c =
     let before = listing (c .args .keywords .now .words) in
     let words = c .args .words .now in
     let lt = c .loop-word-test .taken in
-    let now = told .words ∙ added-ok before _ words (l .word-index) _ lt (told .answer) in
-    ( now ∙ words-more before _ words (l .word-index) _ lt (l .inv .0)
-    , ap (λ ws. add-all ws (drop (l .word-index + 1) words)) now ∙ answers-on before _ words (l .word-index) _ lt (told .answer) ∙ l .inv .1
-    , told .below ∙ l .inv .2 )
+    let now = told .words ∙ added-ok before _ words (l .word-index) _ lt (told .answer) in (
+      now ∙ words-more before _ words (l .word-index) _ lt (l .inv .0),
+      ap (λ ws. add-all ws (drop (l .word-index + 1) words)) now ∙ answers-on before _ words (l .word-index) _ lt (told .answer) ∙ l .inv .1,
+      told .below ∙ l .inv .2,
+    )
 
 pub returns : need.returns
 returns g c =

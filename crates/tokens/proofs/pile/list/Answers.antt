@@ -11,6 +11,7 @@ loop-token-again g c =
     let s = g .S·Source .meaning (c .loop-token .source) in
     let told = c .in-Ok-Some .ensures tt in
     let taken : Ok (Some (c .in-Ok-Some .token)) ≡ answer s = cc in
-    let more = listed-more s (c .in-Ok-Some .token) _ _ taken (c .loop-token .inv .0) in
-    ( ap₂ (λ before to-come. before ++ to-come .tokens) (c .in-Continue-push .ensures tt .items) (told .after) ∙ more
-    , ap (λ m. m .ending) (told .after) ∙ c .loop-token .inv .1 )
+    let more = listed-more s (c .in-Ok-Some .token) _ _ taken (c .loop-token .inv .0) in (
+      ap₂ (λ before to-come. before ++ to-come .tokens) (c .in-Continue-push .ensures tt .items) (told .after) ∙ more,
+      ap (λ m. m .ending) (told .after) ∙ c .loop-token .inv .1,
+    )
