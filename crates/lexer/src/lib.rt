@@ -13,8 +13,8 @@ ghost use Rattle.lexer.specs.declared.ahead.Ahead.the-variants.{Unread};
 ghost use Rattle.lexer.specs.Looking.{looking, seen-kind, noted, looking-kinded};
 ghost use Rattle.lexer.specs.Opening.{open-answer, open-after};
 use crate::ahead::Ahead;
-use crate::scan::blanks;
 use crate::scan::item;
+use crate::scan::skip_blanks;
 pub use opening::PlanRefusal;
 use source::Layered;
 use source::Source;
@@ -79,13 +79,14 @@ impl<'a> Lexer<'a> {
             ≡ dropped (lexed-from (now (self .entry) .at) (now (now (self .entry) .plan))) ⌝ }
         ensures notes { λ r. ⌜ (now (self .entry) .ahead ≡ Unread → now (self .exit) .ahead ≡ noted r) ⌝ }
     {
-        self.at += blanks(&self.plan[self.at..]);
-        if self.at == self.plan.len() {
+        let start = skip_blanks(self.plan, self.at);
+        if start == self.plan.len() {
+            self.at = start;
             return Ok(None);
         }
-        match item(&self.plan[self.at..], self.at as u32) {
+        match item(&self.plan[start..], start as u32) {
             Ok(token) => {
-                self.at += token.length as usize;
+                self.at = start + token.length as usize;
                 Ok(Some(token))
             }
             Err(fault) => {

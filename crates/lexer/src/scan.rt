@@ -1,22 +1,23 @@
 ghost use mathlib.Core.Path.{_≡_};
-ghost use Prim.Native.Nat.{_≤_, _<_};
-ghost use lib.ListN.{length, getD};
+ghost use Prim.Native.Nat.{_+_, _≤_, _<_};
+ghost use lib.ListN.{length, getD, drop};
 ghost use Rattle.lexing.specs.Plans.{is-blank, is-letter, is-digit, mark-kind, run};
 ghost use Rattle.lexing.specs.Plans.{word as wordOf, numeral as numeralOf, item as itemOf};
 use source::BOTTOM;
 use source::SourceFault;
 use syntax::Token;
 
-// How many blanks come first.
-pub(crate) fn blanks(rest: &[u8]) -> usize
-    ensures { λ r. ⌜ r ≡ length (run is-blank (now (rest .entry))) ⌝ }
+// The first place, from `at` on, that has no blank.
+pub(crate) fn skip_blanks(plan: &[u8], at: usize) -> usize
+    requires { ⌜ at ≤ length (now plan) ⌝ }
+    ensures value { λ r. ⌜ r ≡ at + length (run is-blank (drop at (now (plan .entry)))) ⌝ }
+    ensures within { λ r. ⌜ r ≤ length (now (plan .entry)) ⌝ }
 {
-    for (i, byte) in rest.iter().enumerate() {
-        if !is_blank(*byte) {
-            return i;
-        }
+    let mut start = at;
+    while start < plan.len() && is_blank(plan[start]) {
+        start += 1;
     }
-    rest.len()
+    start
 }
 
 fn is_blank(byte: u8) -> bool

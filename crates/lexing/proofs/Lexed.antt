@@ -133,18 +133,20 @@ skip-blanks p (b ∷ bs) =
     ∙ skip-blanks (p + 1) bs ∙ sym (blank-front p b bs yes′))
     (λ _. ap (λ q. lexed q 0 (b ∷ bs)) (add-zero p))
 
-module _ (plan : List ℕ) (p n : ℕ) (h : n ≡ length (run is-blank (drop p plan))) where
-  pub behind-blanks : lexed-from (p + n) plan ≡ lexed-from p plan
+-- the blanks at place p end before place q
+module _ (plan : List ℕ) (p q : ℕ) (h : q ≡ p + length (run is-blank (drop p plan))) where
+  pub behind-blanks : lexed-from q plan ≡ lexed-from p plan
   behind-blanks =
-      ap (lexed (p + n) 0) (sym (drop-drop n p plan)) ∙ ap (λ k. lexed (p + k) 0 (drop k (drop p plan))) h
+      ap (λ k. lexed-from k plan) h
+      ∙ ap (lexed (p + length (run is-blank (drop p plan))) 0) (sym (drop-drop _ p plan))
       ∙ skip-blanks p (drop p plan)
 
-  pub no-blank-there : p + n < length plan → is-blank (getD plan (p + n) 0) ≡ false
+  pub no-blank-there : q < length plan → is-blank (getD plan q 0) ≡ false
   no-blank-there lt =
-      sym (ap is-blank (getD-drop p plan n 0)) ∙ ap (λ k. is-blank (getD (drop p plan) k 0)) h
+      ap (λ k. is-blank (getD plan k 0)) h ∙ sym (ap is-blank (getD-drop p plan _ 0))
       ∙ run-behind is-blank (drop p plan) (omega (arith, length-drop p plan))
 
-  pub blanks-within : p ≤ length plan → p + n ≤ length plan
+  pub blanks-within : p ≤ length plan → q ≤ length plan
   blanks-within lt = omega (arith, length-run-le is-blank (drop p plan), length-drop p plan)
 
 -- the plan at an item

@@ -181,12 +181,12 @@ module _ (plan : List ℕ) where
   reads-from (suc steps) p within far =
       let n : ℕ = length (run is-blank (drop p plan)) in
       let le : p ≤ p + n = omega arith in
-      subst (Reading p) (behind-blanks plan p n refl)
+      subst (Reading p) (behind-blanks plan p (p + n) refl)
       (⊎-elim
-      (λ lt. let blank = no-blank-there plan p n refl lt in
+      (λ lt. let blank = no-blank-there plan p (p + n) refl lt in
       read-item p (p + n) le (blanks-pass p) lt blank (here plan (p + n)) refl (item-at (p + n) lt blank)
       (λ r behind within. reads-from steps r within (omega arith)))
-      (λ ge. let at : p + n ≡ length plan = omega (arith, blanks-within plan p n refl within) in
+      (λ ge. let at : p + n ≡ length plan = omega (arith, blanks-within plan p (p + n) refl within) in
       subst (Reading p) (sym (end-there plan (p + n) ge)) (p + n, le, blanks-pass p, at))
       (cases-lt (p + n) (length plan)))
 

@@ -34,40 +34,32 @@ same-item plan p =
     ap (λ bs. item p (getD bs 0 0) bs) (take-rest plan p)
     ∙ ap (λ b. item p b (drop p plan)) (getD-drop p plan 0 0 ∙ ap (λ k. getD plan k 0) (add-zero p))
 
--- n blanks stand at place p
-module _ (plan : List ℕ) (p n : ℕ) (h : n ≡ length (run is-blank (rest plan p))) where
-  count : n ≡ length (run is-blank (drop p plan))
-  count = h ∙ ap (λ bs. length (run is-blank bs)) (take-rest plan p)
-
-  pub blanks-fit : p ≤ length plan → p + n ≤ length plan
-  blanks-fit within = blanks-within plan p n count within
-
-  -- what is answered at place p, and what is left at place q, by what is read behind the blanks
-  pub record Step (a : Result (Option Token) SourceFault) (q : ℕ) : Type 0 where
+-- the blanks at place p end before place q
+module _ (plan : List ℕ) (p q : ℕ) (h : q ≡ p + length (run is-blank (drop p plan))) where
+  -- what is answered at place p, and what is left at place r
+  pub record Step (a : Result (Option Token) SourceFault) (r : ℕ) : Type 0 where
     pub value : a ≡ answer (lexed-from p plan)
-    pub after : lexed-from q plan ≡ dropped (lexed-from p plan)
+    pub after : lexed-from r plan ≡ dropped (lexed-from p plan)
 
-  step :
-      (s : Stream) (q : ℕ) → lexed-from (p + n) plan ≡ s → lexed-from q plan ≡ dropped s → Step (answer s) q
-  step s q here behind =
-      let same = sym here ∙ behind-blanks plan p n count in
+  step : (s : Stream) (r : ℕ) → lexed-from q plan ≡ s → lexed-from r plan ≡ dropped s → Step (answer s) r
+  step s r here behind =
+      let same = sym here ∙ behind-blanks plan p q h in
       record { value = ap answer same; after = behind ∙ ap dropped same }
 
-  pub at-end : p + n ≡ length plan → Step (Ok None) (p + n)
-  at-end e = let here = end-there plan (p + n) (omega arith) in step _ (p + n) here here
+  pub at-end : q ≡ length plan → Step (Ok None) q
+  at-end e = let here = end-there plan q (omega arith) in step _ q here here
 
-  module _ (lt : p + n < length plan) where
-    pub at-fault :
-        (f : SourceFault) → Err f ≡ item (p + n) (getD (rest plan (p + n)) 0 0) (rest plan (p + n)) → Step (Err f) (p + n)
+  module _ (lt : q < length plan) where
+    pub at-fault : (f : SourceFault) → Err f ≡ item q (getD (rest plan q) 0 0) (rest plan q) → Step (Err f) p
     at-fault f i =
-        let there = fault-there plan (p + n) lt (no-blank-there plan p n count lt) f (i ∙ same-item plan (p + n)) in
-        step _ (p + n) there there
+        let there = fault-there plan q lt (no-blank-there plan p q h lt) f (i ∙ same-item plan q) in
+        step _ p there (sym (behind-blanks plan p q h) ∙ there)
 
-    module _ (t : Token) (i : Ok t ≡ item (p + n) (getD (rest plan (p + n)) 0 0) (rest plan (p + n))) where
-      pub token-fits : (p + n) + t .length ≤ length plan
-      token-fits = here-within plan (p + n) lt t (i ∙ same-item plan (p + n)) .1
+    module _ (t : Token) (i : Ok t ≡ item q (getD (rest plan q) 0 0) (rest plan q)) where
+      pub token-fits : q + t .length ≤ length plan
+      token-fits = here-within plan q lt t (i ∙ same-item plan q) .1
 
-      pub at-token : Step (Ok (Some t)) ((p + n) + t .length)
+      pub at-token : Step (Ok (Some t)) (q + t .length)
       at-token =
-          let there = token-there plan (p + n) lt (no-blank-there plan p n count lt) t (i ∙ same-item plan (p + n)) in
-          step _ ((p + n) + t .length) there refl
+          let there = token-there plan q lt (no-blank-there plan p q h lt) t (i ∙ same-item plan q) in
+          step _ (q + t .length) there refl
