@@ -1,13 +1,14 @@
 use source::SourceFault;
-use syntax::Token;
 
-// What a lexer has seen of the item behind its position.
+// What a lexer knows of the item behind its position.
 #[derive(Clone, Copy)]
 pub(crate) enum Ahead {
-    // Nothing yet.
+    // Nothing: it was not looked at yet.
     Unread,
-    // A token. The position is already behind it.
-    Seen(Token),
-    // A fault. Nothing behind it is ever read.
+    // It is the token that the lexer remembers, and the position is already behind it.
+    Seen,
+    // There is none.
+    Ended,
+    // It is a fault. Nothing behind it is ever read.
     Stuck(SourceFault),
 }

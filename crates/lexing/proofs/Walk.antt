@@ -1,18 +1,18 @@
 -- One step of the walk over a plan: the blanks at place p are passed, and then there is END, a fault or a token.
-use mathlib.Core.Path.{_≡_, refl, sym, ap, _∙_}
-use mathlib.Core.List.{List}
+use mathlib.Core.Path.{_≡_, sym, ap, _∙_}
+use mathlib.Core.Bool.{true}
+use mathlib.Core.List.{List, [], _∷_}
 use Prim.Native.Nat.{ℕ, _+_, _-_, _≤_, _<_}
 use native.Mathlib.Omega.{arith}
 use native.Mathlib.Nat.{add-zero}
 use lib.ListN.{length, getD, take, drop}
-use Rattle.std.specs.declared.option.Option.{Option}
-use Rattle.std.specs.declared.option.Option.the-variants.{Some, None}
-use Rattle.std.specs.declared.result.Result.{Result}
 use Rattle.std.specs.declared.result.Result.the-variants.{Ok, Err}
 use Rattle.std.proofs.shelf.Lists.{take-rest, getD-drop}
 use Rattle.syntax.specs.declared.Token.{Token}
 use Rattle.source.specs.declared.SourceFault.{SourceFault}
-use Rattle.source.specs.Streams.{Stream, answer, dropped}
+use Rattle.source.specs.Streams.{Stream, end, fault, answer}
+use Rattle.streams.specs.Listed.{is-kind}
+use Rattle.streams.proofs.Kinding.{answer-kind}
 use Rattle.lexing.specs.Plans.{is-blank, run, item, lexed-from}
 use Rattle.lexing.proofs.Lexed.{
   here,
@@ -22,8 +22,8 @@ use Rattle.lexing.proofs.Lexed.{
   fault-there,
   behind-blanks,
   no-blank-there,
-  blanks-within,
 }
+use Rattle.lexing.proofs.Lexkinds.{lexed-kinded}
 
 -- the bytes from place p on, as a cut gives them
 abbrev rest : List ℕ → ℕ → List ℕ
@@ -36,30 +36,28 @@ same-item plan p =
 
 -- the blanks at place p end before place q
 module _ (plan : List ℕ) (p q : ℕ) (h : q ≡ p + length (run is-blank (drop p plan))) where
-  -- what is answered at place p, and what is left at place r
-  pub record Step (a : Result (Option Token) SourceFault) (r : ℕ) : Type 0 where
-    pub value : a ≡ answer (lexed-from p plan)
-    pub after : lexed-from r plan ≡ dropped (lexed-from p plan)
+  at-place : (s : Stream) → lexed-from q plan ≡ s → s ≡ lexed-from p plan
+  at-place s there = sym there ∙ behind-blanks plan p q h
 
-  step : (s : Stream) (r : ℕ) → lexed-from q plan ≡ s → lexed-from r plan ≡ dropped s → Step (answer s) r
-  step s r here behind =
-      let same = sym here ∙ behind-blanks plan p q h in
-      record { value = ap answer same; after = behind ∙ ap dropped same }
-
-  pub at-end : q ≡ length plan → Step (Ok None) q
-  at-end e = let here = end-there plan q (omega arith) in step _ q here here
+  pub end-behind : q ≡ length plan → record { tokens = []; ending = end } ≡ lexed-from p plan
+  end-behind e = at-place _ (end-there plan q (omega arith))
 
   module _ (lt : q < length plan) where
-    pub at-fault : (f : SourceFault) → Err f ≡ item q (getD (rest plan q) 0 0) (rest plan q) → Step (Err f) p
-    at-fault f i =
-        let there = fault-there plan q lt (no-blank-there plan p q h lt) f (i ∙ same-item plan q) in
-        step _ p there (sym (behind-blanks plan p q h) ∙ there)
+    pub fault-behind :
+        (f : SourceFault) → Err f ≡ item q (getD (rest plan q) 0 0) (rest plan q)
+        → record { tokens = []; ending = fault f } ≡ lexed-from p plan
+    fault-behind f i = at-place _ (fault-there plan q lt (no-blank-there plan p q h lt) f (i ∙ same-item plan q))
 
     module _ (t : Token) (i : Ok t ≡ item q (getD (rest plan q) 0 0) (rest plan q)) where
       pub token-fits : q + t .length ≤ length plan
       token-fits = here-within plan q lt t (i ∙ same-item plan q) .1
 
-      pub at-token : Step (Ok (Some t)) (q + t .length)
-      at-token =
-          let there = token-there plan q lt (no-blank-there plan p q h lt) t (i ∙ same-item plan q) in
-          step _ (q + t .length) there refl
+      pub token-behind :
+          record {
+            tokens = t ∷ lexed-from (q + t .length) plan .tokens;
+            ending = lexed-from (q + t .length) plan .ending;
+          } ≡ lexed-from p plan
+      token-behind = at-place _ (token-there plan q lt (no-blank-there plan p q h lt) t (i ∙ same-item plan q))
+
+      pub token-kind : is-kind (t .kind) ≡ true
+      token-kind = answer-kind (lexed-from p plan) t (lexed-kinded p plan) (ap answer token-behind)

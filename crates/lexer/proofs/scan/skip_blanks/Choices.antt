@@ -8,7 +8,7 @@ use Rattle.lexer.proofs.scan.skip_blanks.Given as given
 abbrev pub Inv-loop-start : given.InvT-loop-start
 Inv-loop-start l =
     (l .start + length (run is-blank (drop (l .start) (l .plan)))
-      ≡ l .at + length (run is-blank (drop (l .at) (l .plan))))
+    ≡ l .at + length (run is-blank (drop (l .at) (l .plan))))
     × (l .start ≤ length (l .plan))
 
 abbrev pub μ-loop-start : given.MeasureT-loop-start
