@@ -8,7 +8,7 @@ use Rattle.std.specs.declared.result.Result.the-variants.{Ok, Err}
 use Rattle.syntax.specs.declared.Token.{Token}
 use Rattle.source.specs.Streams.{Stream}
 use Rattle.streams.specs.Listed.{listed, first-out}
-use Rattle.list.specs.declared.KindOutOfRange.{KindOutOfRange}
+use Rattle.list.specs.declared.opening.KindOutOfRange.{KindOutOfRange}
 
 -- the number and the place of the refusal
 abbrev pub number : KindOutOfRange → ℕ

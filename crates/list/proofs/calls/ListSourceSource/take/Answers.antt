@@ -1,5 +1,5 @@
 use Rattle.streams.proofs.Listing.{listed-answer, listed-drops, listed-ends, listed-stays}
-use Rattle.list.proofs.ListSourceSource.take.Needs as need
+use Rattle.list.proofs.calls.ListSourceSource.take.Needs as need
 
 pub returns-then-self : need.returns-then-self
 returns-then-self c = record {

@@ -2,7 +2,7 @@ use mathlib.Core.Path.{sym, _∙_}
 use Rattle.std.proofs.shelf.Lists.{at-drop-all}
 use Rattle.streams.specs.Listed.{first-out}
 use Rattle.streams.proofs.Listing.{kind-in, kind-out}
-use Rattle.list.proofs.first_out_of_range.Needs as need
+use Rattle.list.proofs.calls.first_out_of_range.Needs as need
 
 pub returns-then-not-is-kind : need.returns-then-not-is-kind
 returns-then-not-is-kind c =
