@@ -10,7 +10,12 @@ use Rattle.streams.specs.declared.Keyword.{Keyword}
 use Rattle.streams.specs.Listed.{is-kind}
 use Rattle.streams.specs.Spelled.{is-listed}
 use Rattle.keywords.specs.declared.refusal.KeywordRefusal.{KeywordRefusal}
-use Rattle.keywords.specs.declared.refusal.KeywordRefusal.the-variants.{KindOutOfRange, NoSpelling, AlreadyListed, NoRoom}
+use Rattle.keywords.specs.declared.refusal.KeywordRefusal.the-variants.{
+  KindOutOfRange,
+  NoSpelling,
+  AlreadyListed,
+  NoRoom,
+}
 
 -- the number and the place of each refusal
 abbrev pub number : KeywordRefusal → ℕ

@@ -40,7 +40,8 @@ impl<S: Source> Keywords<S> {
     /// Lists a keyword, or refuses it and changes nothing.
     pub fn add(&mut self, keyword: Keyword) -> Result<(), KeywordRefusal>
         ensures answer { λ r. ⌜ r ≡ add-answer (listing (now (self .entry) .words)) keyword ⌝ }
-        ensures words { λ _. ⌜ listing (now (self .exit) .words) ≡ added (listing (now (self .entry) .words)) keyword ⌝ }
+        ensures words { λ _. ⌜
+            listing (now (self .exit) .words) ≡ added (listing (now (self .entry) .words)) keyword ⌝ }
         ensures below { λ _. ⌜ now (self .exit) .below ≡ now (self .entry) .below ⌝ }
     {
         self.words.add(keyword)
@@ -59,7 +60,8 @@ pub impl<S: Source> Source for Keywords<S> as KeywordsSource {
     ghost meaning = { λ s. respelled (listing (s .words)) (S·Source .meaning (s .below)) };
 
     ghost kinded = { λ s.
-        respelled-kinded (listing (s .words)) (S·Source .meaning (s .below)) (s .words .kinds) (S·Source .kinded (s .below)) };
+        respelled-kinded (listing (s .words)) (S·Source .meaning (s .below)) (s .words .kinds)
+        (S·Source .kinded (s .below)) };
 
     fn peek(&mut self) -> Result<Option<Token>, SourceFault> {
         match self.below.peek()? {

@@ -1,8 +1,7 @@
 -- What a lexer that has looked ahead still has to give.
 use mathlib.Core.Path.{_≡_}
 use mathlib.Core.Bool.{Bool, true, false}
-use mathlib.Core.List.{List, [], _∷_}
-use Prim.Native.Nat.{ℕ}
+use mathlib.Core.List.{[], _∷_}
 use Rattle.syntax.specs.declared.Token.{Token}
 use Rattle.syntax.specs.Grammar.{Kinded}
 use Rattle.source.specs.Streams.{end, fault, Stream}

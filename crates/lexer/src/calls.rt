@@ -29,7 +29,8 @@ impl<'a> Lexer<'a> {
     /// Turns to the whole of a plan, or refuses it and stays as it is.
     pub fn open(&mut self, plan: &'a [u8]) -> Result<(), PlanRefusal>
         ensures answer { λ r. ⌜ r ≡ open-answer (now (plan .entry)) ⌝ }
-        ensures after { λ _. ⌜ stream (now (self .exit)) ≡ open-after (now (plan .entry)) (stream (now (self .entry))) ⌝ }
+        ensures after { λ _. ⌜
+            stream (now (self .exit)) ≡ open-after (now (plan .entry)) (stream (now (self .entry))) ⌝ }
         ensures reading { λ r. ⌜ (r ≡ Ok tt → TheReading (now (plan .entry)) (stream (now (self .exit)))) ⌝ }
     {
         if plan.len() > 65_535 {

@@ -1,6 +1,6 @@
 -- A word that stands alone is a word to the lexer.
 use mathlib.Core.Path.{_≡_, refl, sym, ap, subst, _∙_}
-use mathlib.Core.Bool.{true, false}
+use mathlib.Core.Bool.{true}
 use mathlib.Core.List.{List, [], _∷_}
 use mathlib.Core.Logic.{⊎-elim}
 use Prim.Native.Nat.{ℕ, _≤_, _<_}
@@ -9,11 +9,11 @@ use lib.Dec.{leb}
 use lib.ListN.{length}
 use Rattle.std.specs.declared.option.Option.the-variants.{Some, None}
 use Rattle.std.specs.declared.result.Result.the-variants.{Ok, Err}
-use Rattle.std.proofs.shelf.Tests.{and-parts, and-from, cases-bool, cond-true, cond-false, cond-both, leb-true, le-leb, leb-false}
+use Rattle.std.proofs.shelf.Tests.{and-parts, and-from, cases-bool, cond-true, cond-false, leb-true, le-leb}
 use Rattle.syntax.specs.declared.Token.{Token}
 use Rattle.source.specs.declared.SourceFault.{SourceFault}
-use Rattle.source.specs.declared.SourceFault.the-variants.{LongWord}
-use Rattle.lexing.specs.Plans.{is-letter, run, spelled, token, Item, word}
+use Rattle.lexing.specs.Plans.{is-letter, run, spelled, Item, word}
+use Rattle.lexing.proofs.Items.{word-cases}
 use Rattle.lexing.specs.Spelling.{letters, is-word, spelling}
 
 -- what a word says of its letters
@@ -22,10 +22,7 @@ Says ls (Ok t) = (t .length ≡ length ls) × (t .value ≡ spelled ls) × (leng
 Says ls (Err f) = 8 < length ls
 
 word-says : (p : ℕ) (ls : List ℕ) → Says ls (word p ls)
-word-says p ls =
-    cond-both (leb (length ls) 8) (Ok (token 1 p (length ls) (spelled ls))) (Err (LongWord p 0)) (Says ls)
-    (λ short. (refl, refl, leb-true _ 8 short))
-    (λ long. leb-false _ 8 long)
+word-says p ls = word-cases (Says ls) p ls (λ short. (refl, refl, short)) (λ long. long)
 
 run-letters : (bs : List ℕ) → letters bs ≡ true → run is-letter bs ≡ bs
 run-letters [] h = refl

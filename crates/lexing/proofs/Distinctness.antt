@@ -1,6 +1,6 @@
 -- Different words have different values.
 use mathlib.Core.Path.{_≡_, refl, sym, ap, ap₂, _∙_}
-use mathlib.Core.Bool.{true, false}
+use mathlib.Core.Bool.{true}
 use mathlib.Core.List.{List, [], _∷_, _++_}
 use mathlib.Core.Logic.{⊎-elim}
 use Prim.Native.Nat.{ℕ, zero, suc, _+_, _-_, _*_, _≤_, _<_}
@@ -11,7 +11,7 @@ use Rattle.std.specs.declared.option.Option.the-variants.{Some, None}
 use Rattle.std.specs.shelf.Digits.{numberAfter}
 use Rattle.std.proofs.shelf.Digits.{numberAfter-append, numberAfter-ge}
 use Rattle.std.proofs.shelf.Lists.{take-append-drop}
-use Rattle.std.proofs.shelf.Tests.{and-parts, and-from, cases-bool, cases-lt, cond-true, cond-false, leb-true}
+use Rattle.std.proofs.shelf.Tests.{and-parts, cases-bool, cases-lt, cond-true, cond-false, leb-true}
 use Rattle.lexing.specs.Plans.{is-letter, spelled}
 use Rattle.lexing.specs.Spelling.{letters, is-word, spelling, Distinct}
 
@@ -52,7 +52,8 @@ none-from-zero (b ∷ bs) (suc n) h e =
 
 -- the shorter one is the back of the longer one, and there is nothing in front of it
 shorter :
-    (xs ys : List ℕ) → length xs ≤ length ys → letters xs ≡ true → letters ys ≡ true → spelled xs ≡ spelled ys → xs ≡ ys
+    (xs ys : List ℕ) → length xs ≤ length ys → letters xs ≡ true → letters ys ≡ true
+    → spelled xs ≡ spelled ys → xs ≡ ys
 shorter xs ys le hx hy e =
     let n : ℕ = length ys - length xs in
     let whole = take-append-drop n ys in

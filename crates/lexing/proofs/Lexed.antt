@@ -1,41 +1,34 @@
 -- What the meaning of a plan's bytes is, item by item.
 use mathlib.Core.Path.{_≡_, refl, sym, ap, subst, _∙_}
-use mathlib.Core.Bool.{Bool, true, false, cond}
+use mathlib.Core.Bool.{Bool, true, false}
 use mathlib.Core.List.{List, [], _∷_}
 use Prim.Native.Nat.{ℕ, zero, suc, pred, _+_, _≤_, _<_}
 use native.Mathlib.Omega.{arith}
 use native.Mathlib.Nat.{add-zero}
-use lib.Dec.{leb}
 use lib.ListN.{length, getD, drop, length-drop}
 use lib.Seq.{drop-drop}
 use Rattle.std.specs.declared.option.Option.{Option}
 use Rattle.std.specs.declared.option.Option.the-variants.{Some, None}
-use Rattle.std.specs.declared.result.Result.{Result}
 use Rattle.std.specs.declared.result.Result.the-variants.{Ok, Err}
 use Rattle.std.proofs.shelf.Lists.{drop-more, drop-all, getD-drop}
 use Rattle.std.proofs.shelf.Tests.{cond-true, cond-false, cond-both}
 use Rattle.syntax.specs.declared.Token.{Token}
 use Rattle.source.specs.declared.SourceFault.{SourceFault}
-use Rattle.source.specs.declared.SourceFault.the-variants.{LongWord, LargeNumber}
-use Rattle.source.specs.Streams.{Stream, end, fault}
+use Rattle.source.specs.Streams.{end, fault}
 use Rattle.lexing.specs.Plans.{
   is-blank,
   is-letter,
   is-digit,
   mark-kind,
   run,
-  spelled,
-  decimal,
-  token,
   Item,
-  word,
-  numeral,
   mark,
   item,
   item-then,
   lexed,
   lexed-from,
 }
+use Rattle.lexing.proofs.Items.{word-cases, numeral-cases, item-cases}
 use Rattle.lexing.proofs.Runs.{length-run-le, run-behind}
 
 -- an item of at most m bytes, and at least one
@@ -50,26 +43,15 @@ mark-within : (m p : ℕ) (k : Option ℕ) → 1 ≤ m → Within m (mark p k)
 mark-within m p (Some k) h = (omega arith, h)
 mark-within m p None h = tt
 
-module _ (m p : ℕ) (ls : List ℕ) (some : 1 ≤ length ls) (few : length ls ≤ m) where
-  word-within : Within m (word p ls)
-  word-within =
-      cond-both (leb (length ls) 8) (Ok (token 1 p (length ls) (spelled ls))) (Err (LongWord p 0)) (Within m)
-      (λ _. (some, few)) (λ _. tt)
-
-  numeral-within : Within m (numeral p ls)
-  numeral-within =
-      cond-both (leb (decimal ls) 4294967295) (Ok (token 2 p (length ls) (decimal ls))) (Err (LargeNumber p 0)) (Within m)
-      (λ _. (some, few)) (λ _. tt)
-
 item-within : (p b : ℕ) (bs : List ℕ) → Within (length (b ∷ bs)) (item p b (b ∷ bs))
 item-within p b bs =
     let all = b ∷ bs in
-    let other = cond (is-digit b) (numeral p (run is-digit all)) (mark p (mark-kind b)) in
-    cond-both (is-letter b) (word p (run is-letter all)) other (Within (length all))
-    (λ yes′. word-within _ p (run is-letter all) (some-run is-letter b bs yes′) (length-run-le is-letter all))
-    (λ _. cond-both (is-digit b) (numeral p (run is-digit all)) (mark p (mark-kind b)) (Within (length all))
-    (λ yes′. numeral-within _ p (run is-digit all) (some-run is-digit b bs yes′) (length-run-le is-digit all))
-    (λ _. mark-within _ p (mark-kind b) (omega arith)))
+    item-cases (Within (length all)) p b all
+    (λ letter. word-cases (Within (length all)) p (run is-letter all)
+    (λ _. (some-run is-letter b bs letter, length-run-le is-letter all)) (λ _. tt))
+    (λ digit. numeral-cases (Within (length all)) p (run is-digit all)
+    (λ _. (some-run is-digit b bs digit, length-run-le is-digit all)) (λ _. tt))
+    (λ _ _. mark-within _ p (mark-kind b) (omega arith))
 
 lexed-skip : (p n : ℕ) (bs : List ℕ) → lexed p n bs ≡ lexed (p + n) 0 (drop n bs)
 unfolding lexed
@@ -128,7 +110,8 @@ skip-blanks :
     (p : ℕ) (bs : List ℕ) → lexed (p + length (run is-blank bs)) 0 (drop (length (run is-blank bs)) bs) ≡ lexed p 0 bs
 skip-blanks p [] = ap (λ q. lexed q 0 []) (add-zero p)
 skip-blanks p (b ∷ bs) =
-    cond-both (is-blank b) (b ∷ run is-blank bs) [] (λ r. lexed (p + length r) 0 (drop (length r) (b ∷ bs)) ≡ lexed p 0 (b ∷ bs))
+    cond-both (is-blank b) (b ∷ run is-blank bs) []
+    (λ r. lexed (p + length r) 0 (drop (length r) (b ∷ bs)) ≡ lexed p 0 (b ∷ bs))
     (λ yes′. ap (λ q. lexed q 0 (drop (length (run is-blank bs)) bs)) (omega arith)
     ∙ skip-blanks (p + 1) bs ∙ sym (blank-front p b bs yes′))
     (λ _. ap (λ q. lexed q 0 (b ∷ bs)) (add-zero p))
@@ -162,6 +145,7 @@ module _ (plan : List ℕ) (p : ℕ) (h : p < length plan) (e : is-blank (getD p
       ∙ ap (λ s. record { tokens = t ∷ s .tokens; ending = s .ending })
       (behind-token plan p (t .length) (here-within plan p h t i .0))
 
-  pub fault-there : (f : SourceFault) → Err f ≡ here plan p → lexed-from p plan ≡ record { tokens = []; ending = fault f }
+  pub fault-there :
+      (f : SourceFault) → Err f ≡ here plan p → lexed-from p plan ≡ record { tokens = []; ending = fault f }
   fault-there f i =
       at-item plan p h e ∙ ap (λ r. item-then r (λ n. lexed (p + 1) (pred n) (drop (p + 1) plan))) (sym i)

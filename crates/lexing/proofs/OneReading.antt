@@ -1,23 +1,22 @@
 -- A plan is read in one way, and that is what its bytes mean.
 use mathlib.Core.Path.{_≡_, refl, sym, ap, ap₂, subst, _∙_}
-use mathlib.Core.Bool.{Bool, true, false, cond, not, _&&_}
+use mathlib.Core.Bool.{Bool, true, false, not, _&&_}
 use mathlib.Core.List.{List, [], _∷_}
 use mathlib.Core.Logic.{⊎-elim}
 use Prim.Native.Nat.{ℕ, zero, suc, _+_, _-_, _≤_, _<_}
 use native.Mathlib.Omega.{arith}
 use native.Mathlib.Nat.{add-zero}
 use lib.Chars.{codes}
-use lib.Dec.{eqb, leb}
-use lib.ListN.{length, getD, take, drop, length-take, length-drop}
+use lib.Dec.{eqb}
+use lib.ListN.{length, getD, drop, length-drop}
 use Rattle.std.specs.declared.option.Option.{Option}
 use Rattle.std.specs.declared.option.Option.the-variants.{Some, None}
 use Rattle.std.specs.declared.result.Result.the-variants.{Ok, Err}
 use Rattle.std.proofs.shelf.Lists.{getD-drop, length-take-le}
-use Rattle.std.proofs.shelf.Tests.{cases-lt, and-parts, not-true, eqb-true, cond-true, cond-false, cond-both, leb-true, leb-false}
+use Rattle.std.proofs.shelf.Tests.{cases-lt, and-parts, not-true, eqb-true, cond-true, cond-false, cond-both}
 use Rattle.std.proofs.shelf.Ways.{tells}
 use Rattle.syntax.specs.declared.Token.{Token}
 use Rattle.source.specs.declared.SourceFault.{SourceFault}
-use Rattle.source.specs.declared.SourceFault.the-variants.{UnknownByte, LongWord, LargeNumber, TooManyTokens}
 use Rattle.source.specs.Faults.{place}
 use Rattle.source.specs.Streams.{Ending, end, fault, Stream}
 use Rattle.lexing.specs.Plans.{
@@ -54,6 +53,7 @@ use Rattle.lexing.specs.Reading.{
   Reads,
   TheReading,
 }
+use Rattle.lexing.proofs.Items.{word-cases, numeral-cases, item-cases}
 use Rattle.lexing.proofs.Runs.{
   length-run-le,
   run-passes,
@@ -92,7 +92,8 @@ module _ (plan : List ℕ) where
       within = omega (arith, length-run-le f (drop p plan), length-drop p plan);
       passes = λ k from to.
           let j : k ≡ p + (k - p) = omega arith in
-          ap (λ i. f (getD plan i 0)) j ∙ sym (ap f (there (k - p))) ∙ run-passes f (drop p plan) (k - p) (omega arith);
+          ap (λ i. f (getD plan i 0)) j ∙ sym (ap f (there (k - p)))
+          ∙ run-passes f (drop p plan) (k - p) (omega arith);
       stops = λ to.
           sym (ap f (there (length bytes))) ∙ run-behind f (drop p plan) (omega (arith, length-drop p plan));
     }
@@ -119,18 +120,18 @@ module _ (plan : List ℕ) where
         let bs = run is-letter (drop p plan) in
         let r = the-run is-letter p lt first in
         let same = ap spelled (run-there is-letter p (p + length bs) r) in
-        cond-both (leb (length bs) 8) (Ok (token 1 p (length bs) (spelled bs))) (Err (LongWord p 0)) (ItemAt p)
-        (λ short. (refl, a-word r (leb-true _ 8 short) refl same))
-        (λ long. (refl, a-long-word p (p + length bs) r (omega (arith, leb-false _ 8 long))))
+        word-cases (ItemAt p) p bs
+        (λ short. (refl, a-word r short refl same))
+        (λ long. (refl, a-long-word p (p + length bs) r (omega arith)))
 
     numeral-at : is-digit (getD plan p 0) ≡ true → ItemAt p (numeral p (run is-digit (drop p plan)))
     numeral-at first =
         let bs = run is-digit (drop p plan) in
         let r = the-run is-digit p lt first in
         let same = ap decimal (run-there is-digit p (p + length bs) r) in
-        cond-both (leb (decimal bs) 4294967295) (Ok (token 2 p (length bs) (decimal bs))) (Err (LargeNumber p 0)) (ItemAt p)
-        (λ small. (refl, a-number r (leb-true _ 4294967295 small) refl same))
-        (λ large. (refl, a-large-number p (p + length bs) r (omega (arith, leb-false _ 4294967295 large, same))))
+        numeral-cases (ItemAt p) p bs
+        (λ small. (refl, a-number r small refl same))
+        (λ large. (refl, a-large-number p (p + length bs) r (omega (arith, same))))
 
     module _ (blank : is-blank (getD plan p 0) ≡ false) where
       mark-at :
@@ -141,12 +142,8 @@ module _ (plan : List ℕ) where
 
       item-at : ItemAt p (here plan p)
       item-at =
-          let b = getD plan p 0 in
-          let bs = drop p plan in
-          let other = cond (is-digit b) (numeral p (run is-digit bs)) (mark p (mark-kind b)) in
-          cond-both (is-letter b) (word p (run is-letter bs)) other (ItemAt p) word-at
-          (λ letter. cond-both (is-digit b) (numeral p (run is-digit bs)) (mark p (mark-kind b)) (ItemAt p) numeral-at
-          (λ digit. mark-at letter digit (mark-kind b) refl))
+          item-cases (ItemAt p) p (getD plan p 0) (drop p plan) word-at numeral-at
+          (λ letter digit. mark-at letter digit (mark-kind (getD plan p 0)) refl)
 
   abbrev Reading : ℕ → Stream → Type 0
   Reading p s = Reads plan p (s .tokens) (s .ending)
@@ -298,7 +295,8 @@ module _ (plan : List ℕ) where
       subst (Stands (t .place)) (sym (numeral-ok (t .place) bs (omega arith)) ∙ ap Ok (as-token t 2 _ _ kind n value))
       (numeral-stands (t .place) (behind plan t) r)
   token-stands t (a-mark lt one e value) =
-      subst (Stands (t .place)) (ap Ok (as-token t (t .kind) 1 0 refl one value)) (mark-stands (t .place) (t .kind) lt e)
+      subst (Stands (t .place)) (ap Ok (as-token t (t .kind) 1 0 refl one value))
+      (mark-stands (t .place) (t .kind) lt e)
 
   fault-stands : (f : SourceFault) → FaultAt plan f → Stands (place f) (Err f)
   fault-stands f (an-unknown-byte p lt blank letter digit e) = record {
@@ -325,10 +323,12 @@ module _ (plan : List ℕ) where
       (p q : ℕ) → p ≤ q → q ≤ length plan → Passes plan is-blank p q → lexed-from p plan ≡ lexed-from q plan
   up-to p q le within blanks =
       let e : p + (q - p) ≡ q = omega arith in
-      over-blanks (q - p) p (omega arith) (subst (Passes plan is-blank p) (sym e) blanks) ∙ ap (λ k. lexed-from k plan) e
+      over-blanks (q - p) p (omega arith) (subst (Passes plan is-blank p) (sym e) blanks)
+      ∙ ap (λ k. lexed-from k plan) e
 
   reads-as :
-      (ts : List Token) (e : Ending) (p : ℕ) → Reads plan p ts e → record { tokens = ts; ending = e } ≡ lexed-from p plan
+      (ts : List Token) (e : Ending) (p : ℕ) → Reads plan p ts e
+      → record { tokens = ts; ending = e } ≡ lexed-from p plan
   reads-as [] end p (q, le, blanks, at) =
       sym (up-to p q le (omega (arith, at)) blanks ∙ end-there plan q (omega (arith, at)))
   reads-as [] (fault f) p (q, le, blanks, at) =

@@ -1,6 +1,6 @@
 -- The longest run at the front, byte by byte, and what it comes to as a word and as a number.
 use mathlib.Core.Path.{_≡_, refl, sym, ap, ap₂, _∙_}
-use mathlib.Core.Bool.{Bool, true, false, cond}
+use mathlib.Core.Bool.{Bool, true, false}
 use mathlib.Core.List.{List, [], _∷_, map}
 use mathlib.Core.Logic.{⊎-elim}
 use Prim.Native.Nat.{ℕ, zero, suc, _+_, _*_, _^_, _≤_, _<_}
@@ -85,7 +85,8 @@ module _ (p : ℕ) (bs : List ℕ) where
 
   pub numeral-err : 4294967295 < decimal bs → Err (LargeNumber p 0) ≡ numeral p bs
   numeral-err h =
-      sym (cond-false (leb (decimal bs) 4294967295) (Ok (token 2 p (length bs) (decimal bs))) _ (lt-leb _ 4294967295 h))
+      let t = token 2 p (length bs) (decimal bs) in
+      sym (cond-false (leb (decimal bs) 4294967295) (Ok t) _ (lt-leb _ 4294967295 h))
 
 -- i bytes of the run are passed, and they come to v so far
 pub record SoFar (f : ℕ → Bool) (value : ℕ → List ℕ → ℕ) (bs : List ℕ) (i v : ℕ) : Type 0 where
@@ -93,9 +94,6 @@ pub record SoFar (f : ℕ → Bool) (value : ℕ → List ℕ → ℕ) (bs : Lis
   pub comes-to : value v (run f (drop i bs)) ≡ value 0 (run f bs)
 
 module _ (f : ℕ → Bool) (value : ℕ → List ℕ → ℕ) (bs : List ℕ) where
-  pub so-far-none : SoFar f value bs 0 0
-  so-far-none = record { left = omega arith; comes-to = refl }
-
   module _ (i v : ℕ) (s : SoFar f value bs i v) where
     pub so-far-more :
         (w : ℕ) → i < length bs → f (getD bs i 0) ≡ true
@@ -129,9 +127,6 @@ pub record WordSoFar (bs : List ℕ) (i v : ℕ) : Type 0 where
   pub small : v < 2 ^ (8 * i)
 
 module _ (bs : List ℕ) where
-  pub word-none : WordSoFar bs 0 0
-  word-none = record { so-far = so-far-none is-letter spelled-after bs; few = omega arith; small = omega arith }
-
   module _ (i v : ℕ) (s : WordSoFar bs i v) where
     pub word-more :
         i < length bs → is-letter (getD bs i 0) ≡ true → i < 8 → getD bs i 0 < 256
@@ -148,23 +143,22 @@ module _ (bs : List ℕ) where
         omega (arith, room i v b (s .small) low)
 
     pub word-long :
-        (p : ℕ) → i < length bs → is-letter (getD bs i 0) ≡ true → 8 ≤ i → Err (LongWord p 0) ≡ word p (run is-letter bs)
+        (p : ℕ) → i < length bs → is-letter (getD bs i 0) ≡ true → 8 ≤ i
+        → Err (LongWord p 0) ≡ word p (run is-letter bs)
     word-long p h pass long =
         word-err p (run is-letter bs) (omega (arith, so-far-longer is-letter spelled-after bs i v (s .so-far) h pass))
 
     pub word-done : (p : ℕ) → run is-letter (drop i bs) ≡ [] → Ok (token 1 p i v) ≡ word p (run is-letter bs)
     word-done p e =
         let all = so-far-all is-letter spelled-after bs i v (s .so-far) e in
-        ap₂ (λ n w. Ok (token 1 p n w)) (all .0) (all .1) ∙ word-ok p (run is-letter bs) (omega (arith, s .few, all .0))
+        ap₂ (λ n w. Ok (token 1 p n w)) (all .0) (all .1)
+        ∙ word-ok p (run is-letter bs) (omega (arith, s .few, all .0))
 
 pub record NumeralSoFar (bs : List ℕ) (i v : ℕ) : Type 0 where
   pub so-far : SoFar is-digit decimal-after bs i v
   pub small : v ≤ 4294967295
 
 module _ (bs : List ℕ) where
-  pub numeral-none : NumeralSoFar bs 0 0
-  numeral-none = record { so-far = so-far-none is-digit decimal-after bs; small = omega arith }
-
   module _ (i v : ℕ) (s : NumeralSoFar bs i v) (h : i < length bs) (pass : is-digit (getD bs i 0) ≡ true) where
     next : SoFar is-digit decimal-after bs (i + 1) (v * 10 + digit (getD bs i 0))
     next = so-far-more is-digit decimal-after bs i v (s .so-far) (v * 10 + digit (getD bs i 0)) h pass (λ ds. refl)

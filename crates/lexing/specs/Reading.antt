@@ -10,7 +10,16 @@ use Rattle.source.specs.declared.SourceFault.{SourceFault}
 use Rattle.source.specs.declared.SourceFault.the-variants.{UnknownByte, LongWord, LargeNumber}
 use Rattle.source.specs.Faults.{place}
 use Rattle.source.specs.Streams.{Ending, end, fault, Stream}
-use Rattle.lexing.specs.Plans.{longest-word, largest-number, is-blank, is-letter, is-digit, mark-kind, spelled, decimal}
+use Rattle.lexing.specs.Plans.{
+  longest-word,
+  largest-number,
+  is-blank,
+  is-letter,
+  is-digit,
+  mark-kind,
+  spelled,
+  decimal,
+}
 
 module _ (plan : List ℕ) where
   -- the byte at place p

@@ -22,7 +22,8 @@ impl<'a> ListSource<'a> {
     /// Turns to all tokens of a list, or refuses it and stays as it is.
     pub fn open(&mut self, tokens: &'a [Token]) -> Result<(), KindOutOfRange>
         ensures answer { λ r. ⌜ r ≡ open-answer (now (tokens .entry)) ⌝ }
-        ensures after { λ _. ⌜ stream (now (self .exit)) ≡ open-after (now (tokens .entry)) (stream (now (self .entry))) ⌝ }
+        ensures after { λ _. ⌜
+            stream (now (self .exit)) ≡ open-after (now (tokens .entry)) (stream (now (self .entry))) ⌝ }
     {
         if let Some(index) = first_out_of_range(tokens) {
             return Err(KindOutOfRange { index });

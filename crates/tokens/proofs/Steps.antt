@@ -1,5 +1,5 @@
 -- One token more of a listing, and one keyword more.
-use mathlib.Core.Path.{_≡_, refl, sym, ap, _∙_}
+use mathlib.Core.Path.{_≡_, sym, ap, _∙_}
 use mathlib.Core.List.{List, [], _∷_, _++_, append-assoc}
 use Prim.Native.Nat.{ℕ, _+_, _<_}
 use lib.ListN.{length, getD, take, drop}
@@ -43,7 +43,8 @@ module _ (before ws words : List Keyword) (i : ℕ) (d : Keyword) (lt : i < leng
   pub added-ok : Ok tt ≡ add-answer ws it → added ws it ≡ ws ++ (it ∷ [])
   added-ok ok = sym (ap (λ r. kept r ws it) ok)
 
-  pub answers-on : Ok tt ≡ add-answer ws it → add-all (ws ++ (it ∷ [])) (drop (i + 1) words) ≡ add-all ws (drop i words)
+  pub answers-on :
+      Ok tt ≡ add-answer ws it → add-all (ws ++ (it ∷ [])) (drop (i + 1) words) ≡ add-all ws (drop i words)
   answers-on ok = sym (rest-all ∙ ap (λ r. and-then r (add-all (ws ++ (it ∷ [])) (drop (i + 1) words))) (sym ok))
 
   pub answers-here : (e : KeywordRefusal) → Err e ≡ add-answer ws it → Err e ≡ add-all ws (drop i words)

@@ -2,7 +2,7 @@ use mathlib.Core.Path.{_≡_, ap, ap₂, _∙_}
 use mathlib.Core.List.{_++_}
 use Rattle.std.specs.declared.option.Option.the-variants.{Some}
 use Rattle.std.specs.declared.result.Result.the-variants.{Ok}
-use Rattle.source.specs.Streams.{Stream, answer}
+use Rattle.source.specs.Streams.{answer}
 use Rattle.tokens.proofs.Steps.{listed-more}
 use Rattle.tokens.proofs.pile.list.Needs as need
 
