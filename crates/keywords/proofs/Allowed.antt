@@ -10,8 +10,8 @@ use Rattle.std.proofs.shelf.Lists.{take-more-set, length-take-le}
 use Rattle.std.proofs.shelf.Ways.{tells}
 use Rattle.streams.specs.declared.Keyword.{Keyword}
 use Rattle.streams.specs.Listed.{is-kind}
-use Rattle.streams.specs.Spelled.{all-kinds}
-use Rattle.streams.proofs.Respelling.{all-kinds-push}
+use Rattle.streams.specs.Rekinded.{all-kinds}
+use Rattle.streams.proofs.Rekinding.{all-kinds-push}
 use Rattle.keywords.specs.Adding.{add-answer, kept, added}
 
 module _ (ws : List Keyword) (w : Keyword) (ok : Ok tt ≡ add-answer ws w) where

@@ -8,7 +8,7 @@ use Rattle.std.specs.declared.result.Result.{Result}
 use Rattle.std.specs.declared.result.Result.the-variants.{Ok, Err}
 use Rattle.streams.specs.declared.Keyword.{Keyword}
 use Rattle.streams.specs.Listed.{is-kind}
-use Rattle.streams.specs.Spelled.{is-listed}
+use Rattle.streams.specs.Rekinded.{is-listed}
 use Rattle.keywords.specs.declared.refusal.KeywordRefusal.{KeywordRefusal}
 use Rattle.keywords.specs.declared.refusal.KeywordRefusal.the-variants.{
   KindOutOfRange,

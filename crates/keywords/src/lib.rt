@@ -2,8 +2,8 @@
 ghost use mathlib.Core.Path.{_≡_};
 ghost use mathlib.Core.List.{[]};
 ghost use Rattle.source.specs.Streams.{above};
-ghost use Rattle.streams.specs.Spelled.{respelled};
-ghost use Rattle.streams.proofs.Kinding.{respelled-kinded};
+ghost use Rattle.streams.specs.Rekinded.{rekinded};
+ghost use Rattle.streams.proofs.Kinding.{rekinded-kinded};
 ghost use Rattle.keywords.specs.Adding.{add-answer, added};
 ghost use Rattle.keywords.specs.Listing.{listing};
 use crate::words::Words;
@@ -57,22 +57,22 @@ pub impl<S: Source> Layered for Keywords<S> as KeywordsLayered {
 }
 
 pub impl<S: Source> Source for Keywords<S> as KeywordsSource {
-    ghost meaning = { λ s. respelled (listing (s .words)) (S·Source .meaning (s .below)) };
+    ghost meaning = { λ s. rekinded (listing (s .words)) (S·Source .meaning (s .below)) };
 
     ghost kinded = { λ s.
-        respelled-kinded (listing (s .words)) (S·Source .meaning (s .below)) (s .words .kinds)
+        rekinded-kinded (listing (s .words)) (S·Source .meaning (s .below)) (s .words .kinds)
         (S·Source .kinded (s .below)) };
 
     fn peek(&mut self) -> Result<Option<Token>, SourceFault> {
         match self.below.peek()? {
-            Some(token) => Ok(Some(self.words.respell(token))),
+            Some(token) => Ok(Some(self.words.rekind(token))),
             None => Ok(None),
         }
     }
 
     fn take(&mut self) -> Result<Option<Token>, SourceFault> {
         match self.below.take()? {
-            Some(token) => Ok(Some(self.words.respell(token))),
+            Some(token) => Ok(Some(self.words.rekind(token))),
             None => Ok(None),
         }
     }

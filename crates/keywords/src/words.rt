@@ -3,7 +3,7 @@ ghost use mathlib.Core.Bool.{true};
 ghost use mathlib.Core.List.{[]};
 ghost use Prim.Native.Nat.{_≤_};
 ghost use lib.ListN.{take};
-ghost use Rattle.streams.specs.Spelled.{kind-of, spelled, is-listed, all-kinds};
+ghost use Rattle.streams.specs.Rekinded.{kind-of, rekind, is-listed, all-kinds};
 ghost use Rattle.keywords.specs.Adding.{add-answer, added};
 use crate::refusal::KeywordRefusal;
 use streams::Keyword;
@@ -68,8 +68,8 @@ impl Words {
     }
 
     // The token with the kind that it has among the keywords.
-    pub(crate) fn respell(&self, token: Token) -> Token
-        ensures { λ r. ⌜ r ≡ spelled (take (now (self .entry) .count) (now (self .entry) .list)) token ⌝ }
+    pub(crate) fn rekind(&self, token: Token) -> Token
+        ensures { λ r. ⌜ r ≡ rekind (take (now (self .entry) .count) (now (self .entry) .list)) token ⌝ }
     {
         if token.kind != 1 {
             return token;

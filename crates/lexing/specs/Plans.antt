@@ -15,7 +15,7 @@ use Rattle.source.specs.declared.SourceFault.{SourceFault}
 use Rattle.source.specs.declared.SourceFault.the-variants.{UnknownByte, LongWord, LargeNumber}
 use Rattle.source.specs.Streams.{end, fault, Stream}
 
--- the longest plan, the longest word and the largest number
+-- how many bytes a plan has at most, how many letters a word, and how large a number is
 abbrev pub longest-plan : ℕ
 longest-plan = 65535
 
@@ -55,6 +55,7 @@ run f (b ∷ bs) = cond (f b) (b ∷ run f bs) []
 abbrev pub spelled : List ℕ → ℕ
 spelled = number 256
 
+-- what a digit counts
 abbrev pub digit : ℕ → ℕ
 digit b = b - 48
 
@@ -62,6 +63,7 @@ digit b = b - 48
 abbrev pub decimal : List ℕ → ℕ
 decimal ds = number 10 (map digit ds)
 
+-- a token by its parts
 abbrev pub token : ℕ → ℕ → ℕ → ℕ → Token
 token kind place length value = record { kind = kind; place = place; length = length; value = value }
 

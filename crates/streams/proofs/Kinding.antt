@@ -1,4 +1,4 @@
--- Every token of a list, of a limited stream and of a respelled one has a kind of 1 to 31.
+-- Every token of a list, of a limited stream and of a rekinded one has a kind of 1 to 31.
 use mathlib.Core.Path.{_≡_, ap, _∙_}
 use mathlib.Core.Bool.{true, false}
 use mathlib.Core.List.{List, [], _∷_, map}
@@ -15,7 +15,7 @@ use Rattle.syntax.specs.Grammar.{Kind, Every, Kinded}
 use Rattle.source.specs.Streams.{Ending, end, fault, Stream, next, answer}
 use Rattle.streams.specs.declared.Keyword.{Keyword}
 use Rattle.streams.specs.Listed.{is-kind, first-out}
-use Rattle.streams.specs.Spelled.{word, kind-of, spelled, respelled, all-kinds}
+use Rattle.streams.specs.Rekinded.{word, kind-of, rekind, rekinded, all-kinds}
 
 module _ {A : Type 0} (P : A → Type 0) where
   every-take : (n : ℕ) (xs : List A) → Every P xs → Every P (take n xs)
@@ -60,13 +60,13 @@ kind-kept (w ∷ ws) v h =
     (λ _. kind-from (w .kind) (p .0))
     (λ _. kind-kept ws v (p .1))
 
-spelled-kept : (ws : List Keyword) → all-kinds ws ≡ true → (t : Token) → HasKind t → HasKind (spelled ws t)
-spelled-kept ws h t k =
+rekind-kept : (ws : List Keyword) → all-kinds ws ≡ true → (t : Token) → HasKind t → HasKind (rekind ws t)
+rekind-kept ws h t k =
     cond-both (eqb (t .kind) word) (kind-of ws (t .value)) (t .kind) Kind (λ _. kind-kept ws (t .value) h) (λ _. k)
 
-pub respelled-kinded :
-    (ws : List Keyword) (s : Stream) → all-kinds ws ≡ true → Kinded (s .tokens) → Kinded (respelled ws s .tokens)
-respelled-kinded ws s fit h = every-map HasKind (spelled ws) (spelled-kept ws fit) (s .tokens) h
+pub rekinded-kinded :
+    (ws : List Keyword) (s : Stream) → all-kinds ws ≡ true → Kinded (s .tokens) → Kinded (rekinded ws s .tokens)
+rekinded-kinded ws s fit h = every-map HasKind (rekind ws) (rekind-kept ws fit) (s .tokens) h
 
 to-test : (k : ℕ) → Kind k → is-kind k ≡ true
 to-test k h = and-from (leb 1 k) (leb k 31) (le-leb 1 k (h .0)) (le-leb k 31 (omega (arith, h .1)))

@@ -1,3 +1,3 @@
 pub mod Limited
 pub mod Listed
-pub mod Spelled
+pub mod Rekinded

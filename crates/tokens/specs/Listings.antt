@@ -11,7 +11,7 @@ use Rattle.source.specs.declared.SourceFault.{SourceFault}
 use Rattle.source.specs.Streams.{Ending, end, fault, Stream}
 use Rattle.streams.specs.declared.Keyword.{Keyword}
 use Rattle.streams.specs.Limited.{limited}
-use Rattle.streams.specs.Spelled.{respelled}
+use Rattle.streams.specs.Rekinded.{rekinded}
 use Rattle.lexing.specs.Plans.{lexed-from}
 use Rattle.lexer.specs.Opening.{open-answer}
 use Rattle.keywords.specs.declared.refusal.KeywordRefusal.{KeywordRefusal}
@@ -35,7 +35,7 @@ emptied s = record { tokens = []; ending = s .ending }
 
 -- a plan under a limit over keywords: the limit is layer 2
 abbrev pub piled : List ℕ → List Keyword → ℕ → Stream
-piled plan ws n = limited 2 n (respelled ws (lexed-from 0 plan))
+piled plan ws n = limited 2 n (rekinded ws (lexed-from 0 plan))
 
 abbrev pub Added : Type 0
 Added = Result (Unit {0}) KeywordRefusal

@@ -1,7 +1,7 @@
 use mathlib.Core.Path.{sym, _∙_}
 use Rattle.std.proofs.shelf.Lists.{at-drop-all}
-use Rattle.streams.specs.Spelled.{is-listed}
-use Rattle.streams.proofs.Respelling.{is-listed-hit, is-listed-miss}
+use Rattle.streams.specs.Rekinded.{is-listed}
+use Rattle.streams.proofs.Rekinding.{is-listed-hit, is-listed-miss}
 use Rattle.keywords.proofs.words.is_listed.Needs as need
 
 pub returns-then-word-spelling : need.returns-then-word-spelling

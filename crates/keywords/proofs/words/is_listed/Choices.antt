@@ -1,6 +1,6 @@
 use mathlib.Core.Path.{_≡_}
 use lib.ListN.{drop}
-use Rattle.streams.specs.Spelled.{is-listed}
+use Rattle.streams.specs.Rekinded.{is-listed}
 use Rattle.keywords.proofs.words.is_listed.Given as given
 
 abbrev pub Inv-loop-word : given.InvT-loop-word

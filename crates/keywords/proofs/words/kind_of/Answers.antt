@@ -1,7 +1,7 @@
 use mathlib.Core.Path.{sym, _∙_}
 use Rattle.std.proofs.shelf.Lists.{at-drop-all}
-use Rattle.streams.specs.Spelled.{kind-of}
-use Rattle.streams.proofs.Respelling.{kind-of-hit, kind-of-miss}
+use Rattle.streams.specs.Rekinded.{kind-of}
+use Rattle.streams.proofs.Rekinding.{kind-of-hit, kind-of-miss}
 use Rattle.keywords.proofs.words.kind_of.Needs as need
 
 pub returns-then-word-value : need.returns-then-word-value

@@ -1,6 +1,6 @@
 use mathlib.Core.Path.{_≡_}
 use lib.ListN.{drop}
-use Rattle.streams.specs.Spelled.{kind-of}
+use Rattle.streams.specs.Rekinded.{kind-of}
 use Rattle.keywords.proofs.words.kind_of.Given as given
 
 abbrev pub Inv-loop-word : given.InvT-loop-word

@@ -18,8 +18,8 @@ kind-of [] v = word
 kind-of (w ∷ ws) v = cond (eqb (w .spelling) v) (w .kind) (kind-of ws v)
 
 -- a token with the kind that it has among these keywords
-abbrev pub spelled : List Keyword → Token → Token
-spelled ws t = record {
+abbrev pub rekind : List Keyword → Token → Token
+rekind ws t = record {
   kind = cond (eqb (t .kind) word) (kind-of ws (t .value)) (t .kind);
   place = t .place;
   length = t .length;
@@ -27,8 +27,8 @@ spelled ws t = record {
 }
 
 -- each token with its kind among these keywords
-abbrev pub respelled : List Keyword → Stream → Stream
-respelled ws s = record { tokens = map (spelled ws) (s .tokens); ending = s .ending }
+abbrev pub rekinded : List Keyword → Stream → Stream
+rekinded ws s = record { tokens = map (rekind ws) (s .tokens); ending = s .ending }
 
 -- some keyword has the spelling v
 abbrev pub is-listed : List Keyword → ℕ → Bool

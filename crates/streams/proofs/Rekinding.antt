@@ -10,7 +10,7 @@ use Rattle.std.proofs.shelf.Tests.{and-parts, and-from}
 use Rattle.std.proofs.shelf.Ways.{tells}
 use Rattle.streams.specs.declared.Keyword.{Keyword}
 use Rattle.streams.specs.Listed.{is-kind}
-use Rattle.streams.specs.Spelled.{kind-of, is-listed, all-kinds}
+use Rattle.streams.specs.Rekinded.{kind-of, is-listed, all-kinds}
 
 module _ (ws : List Keyword) (i v : ℕ) (d : Keyword) (h : i < length ws) where
   pub kind-of-hit : getD ws i d .spelling ≡ v → kind-of (drop i ws) v ≡ getD ws i d .kind
