@@ -1,5 +1,6 @@
 -- What a source still has to give: tokens, and behind them an ending.
 use mathlib.Core.List.{List, [], _∷_}
+use Prim.Native.Nat.{ℕ, _+_, min}
 use Rattle.std.specs.declared.option.Option.{Option}
 use Rattle.std.specs.declared.option.Option.the-variants.{Some, None}
 use Rattle.std.specs.declared.result.Result.{Result}
@@ -36,3 +37,7 @@ answer s = next (s .tokens) (s .ending)
 -- what is left after take
 abbrev pub dropped : Stream → Stream
 dropped s = record { tokens = rest (s .tokens); ending = s .ending }
+
+-- the number of a layer over one of number n
+abbrev pub above : ℕ → ℕ
+above n = min (n + 1) 255

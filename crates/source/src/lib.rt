@@ -50,6 +50,9 @@ impl SourceFault {
     }
 }
 
+/// The layer of a source that stands on no other.
+pub const BOTTOM: u8 = 0;
+
 /// The number of a kind of source, which its type fixes: 0 at the bottom, one more for each layer, 255 at most.
 pub trait Layered {
     ghost layer: { ℕ };

@@ -1,0 +1,4 @@
+pub mod Kinding
+pub mod Passing
+pub mod Listing
+pub mod Rekinding
