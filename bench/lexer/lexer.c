@@ -2,67 +2,72 @@
 
 void lexer_open(struct lexer *lexer, const uint8_t *plan, size_t length) {
     lexer->plan = plan;
-    lexer->length = length;
-    lexer->at = 0;
+    lexer->at = plan;
+    lexer->end = plan + length;
     lexer->ahead = 0;
 }
 
+static uint8_t mark_kind(uint8_t byte) {
+    switch (byte) {
+    case '+': return 3;
+    case '-': return 4;
+    case '*': return 5;
+    case '/': return 6;
+    case '(': return 7;
+    case ')': return 8;
+    case ',': return 9;
+    case ';': return 10;
+    case ':': return 11;
+    case '=': return 12;
+    case '<': return 13;
+    case '>': return 14;
+    case '{': return 15;
+    case '}': return 16;
+    default: return 0;
+    }
+}
+
 static enum answer scan(struct lexer *lexer, struct token *token) {
-    const uint8_t *plan = lexer->plan;
-    size_t length = lexer->length;
-    size_t at = lexer->at;
-    while (at < length && (plan[at] == ' ' || plan[at] == '\n')) {
+    const uint8_t *at = lexer->at;
+    const uint8_t *end = lexer->end;
+    while (at != end && (*at == ' ' || *at == '\n')) {
         at++;
     }
     lexer->at = at;
-    if (at == length) {
+    if (at == end) {
         return END;
     }
-    size_t start = at;
-    uint8_t byte = plan[at];
+    const uint8_t *start = at;
+    uint8_t byte = *at;
     uint64_t value = 0;
-    uint8_t kind;
     if (byte >= 'a' && byte <= 'z') {
-        kind = 1;
+        token->kind = 1;
         do {
             if (at - start == 8) {
                 return LONG_WORD;
             }
             value = value << 8 | byte;
             at++;
-        } while (at < length && (byte = plan[at]) >= 'a' && byte <= 'z');
+        } while (at != end && (byte = *at) >= 'a' && byte <= 'z');
     } else if (byte >= '0' && byte <= '9') {
-        kind = 2;
-        do {
-            value = value * 10 + (byte - '0');
+        uint8_t digit;
+        token->kind = 2;
+        for (; at != end && (digit = *at - '0') < 10; at++) {
+            value = value * 10 + digit;
             if (value > 4294967295u) {
                 return LARGE_NUMBER;
             }
-            at++;
-        } while (at < length && (byte = plan[at]) >= '0' && byte <= '9');
-    } else {
-        switch (byte) {
-        case '+': kind = 3; break;
-        case '-': kind = 4; break;
-        case '*': kind = 5; break;
-        case '/': kind = 6; break;
-        case '(': kind = 7; break;
-        case ')': kind = 8; break;
-        case ',': kind = 9; break;
-        case ';': kind = 10; break;
-        case ':': kind = 11; break;
-        case '=': kind = 12; break;
-        case '<': kind = 13; break;
-        case '>': kind = 14; break;
-        case '{': kind = 15; break;
-        case '}': kind = 16; break;
-        default: return UNKNOWN_BYTE;
         }
+    } else {
+        uint8_t kind = mark_kind(byte);
+        if (kind == 0) {
+            return UNKNOWN_BYTE;
+        }
+        token->kind = kind;
         at++;
     }
     lexer->at = at;
-    token->kind = kind;
-    token->place = (uint32_t)start;
+    token->place = (uint32_t)(start - lexer->plan);
     token->length = (uint32_t)(at - start);
     token->value = value;
     return TOKEN;

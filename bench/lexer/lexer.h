@@ -14,8 +14,8 @@ enum answer { TOKEN, END, UNKNOWN_BYTE, LONG_WORD, LARGE_NUMBER };
 
 struct lexer {
     const uint8_t *plan;
-    size_t length;
-    size_t at;
+    const uint8_t *at;
+    const uint8_t *end;
     int ahead; /* whether `next` and `answer` stand for what comes next */
     enum answer answer;
     struct token next;

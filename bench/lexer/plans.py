@@ -1,4 +1,4 @@
-"""Writes plans of 65,000 bytes: a plan's own mix of words, numbers and marks, and each kind alone."""
+"""Writes plans of 65,000 bytes: a plan's own mix of words, numbers and marks, each kind alone, and one long number."""
 import random
 import sys
 
@@ -43,6 +43,12 @@ def digits(rng):
         yield "0"
 
 
-for name, pieces in [("text", mixed), ("words", words), ("numbers", numbers), ("marks", marks), ("digits", digits)]:
+def large(rng):
+    yield "0" * (LENGTH - 20)
+    yield "9" * 20
+
+
+PLANS = {"text": mixed, "words": words, "numbers": numbers, "marks": marks, "digits": digits, "large": large}
+for name, pieces in PLANS.items():
     with open(f"{sys.argv[1]}/{name}.txt", "w") as file:
         file.write(filled(pieces(random.Random(1))))

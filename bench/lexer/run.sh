@@ -11,7 +11,7 @@ gcc -O2 -g -c bench/lexer/main.c -o "$out/main.o"
 gcc "$out/main.o" "$out/lexer.o" target/staticlib/liblexer_c.a -o "$out/bench"
 python3 bench/lexer/plans.py "$out"
 printf '%-12s %5s %22s %22s %6s\n' plan peeks library/byte C/byte ratio
-for plan in text words numbers marks digits; do
+for plan in text words numbers marks digits large; do
     for peeks in 1 10; do
         valgrind --tool=callgrind --callgrind-out-file="$out/callgrind.out" "$out/bench" "$out/$plan.txt" "$peeks" \
             > "$out/bench.log" 2> "$out/valgrind.log"

@@ -79,7 +79,7 @@ impl<'a> Lexer<'a> {
         }
     }
 
-    // Sees to it that the item behind the position is known.
+    // Sees to it that the item behind the position is known: nothing is unread behind a look.
     fn look(&mut self)
         ensures same { λ _. ⌜ stream (now (self .exit)) ≡ stream (now (self .entry)) ⌝ }
         ensures looked { λ _. ⌜ is-unread (now (self .exit) .ahead) ≡ false ⌝ }

@@ -1,6 +1,5 @@
 use crate::show::show;
 use keywords::Keyword;
-use keywords::KeywordRefusal;
 use keywords::Keywords;
 use keywords::KeywordsLayered;
 use keywords::KeywordsSource;
@@ -11,10 +10,18 @@ use lexer::spelling;
 use limit::Limit;
 use limit::LimitLayered;
 use limit::LimitSource;
+use source::Source;
 use std::io;
 
-fn show_answer(rt: &LibcRuntime, what: &str, answer: Result<(), KeywordRefusal>) -> io::Result<()> {
-    match answer {
+// Lists a keyword and prints what is answered.
+fn list_word<S: Source>(
+    rt: &LibcRuntime,
+    words: &mut Keywords<S>,
+    what: &str,
+    spelling: u64,
+    kind: u8,
+) -> io::Result<()> {
+    match words.add(Keyword { spelling, kind }) {
         Ok(()) => println!(rt, "    {what}: listed"),
         Err(refusal) => {
             let number = refusal.number();
@@ -31,65 +38,25 @@ pub fn show_keywords(rt: &LibcRuntime) -> io::Result<()> {
     let _ = lexer.open(b"on 28526 off on");
     let mut words = Keywords::new(lexer);
     let on = spelling(b"on").unwrap_or(0);
-    show_answer(
-        rt,
-        "on as 0",
-        words.add(Keyword {
-            spelling: on,
-            kind: 0,
-        }),
-    )?;
-    show_answer(
-        rt,
-        "on as 32",
-        words.add(Keyword {
-            spelling: on,
-            kind: 32,
-        }),
-    )?;
-    show_answer(
-        rt,
-        "no spelling",
-        words.add(Keyword {
-            spelling: 0,
-            kind: 17,
-        }),
-    )?;
-    show_answer(
-        rt,
-        "on as 17",
-        words.add(Keyword {
-            spelling: on,
-            kind: 17,
-        }),
-    )?;
-    show_answer(
-        rt,
-        "on again",
-        words.add(Keyword {
-            spelling: on,
-            kind: 18,
-        }),
-    )?;
-    for spelling in 1..16 {
-        let _ = words.add(Keyword { spelling, kind: 31 });
+    list_word(rt, &mut words, "on as 0", on, 0)?;
+    list_word(rt, &mut words, "on as 32", on, 32)?;
+    list_word(rt, &mut words, "no spelling", 0, 17)?;
+    list_word(rt, &mut words, "on as 17", on, 17)?;
+    list_word(rt, &mut words, "on again", on, 18)?;
+    for other in 1..16 {
+        let _ = words.add(Keyword {
+            spelling: other,
+            kind: 31,
+        });
     }
-    show_answer(
+    list_word(
         rt,
+        &mut words,
         "on again, when it would be the 17th",
-        words.add(Keyword {
-            spelling: on,
-            kind: 18,
-        }),
+        on,
+        18,
     )?;
-    show_answer(
-        rt,
-        "a 17th",
-        words.add(Keyword {
-            spelling: 99,
-            kind: 18,
-        }),
-    )?;
+    list_word(rt, &mut words, "a 17th", 99, 18)?;
     println!(rt, "a plan under these keywords and a limit of 3")?;
     show(rt, &mut Limit::new(words, 3))
 }
