@@ -12,5 +12,6 @@ largest = 18446744073709551615
 abbrev pub added : ℕ → ℕ → ℕ
 added x y = min (x + y) (max largest (max x y))
 
+-- a number of a plan, kind 2, counts its value, and any other token nothing
 abbrev pub minutes : Token → ℕ
 minutes t = cond (eqb (t .kind) 2) (t .value) 0

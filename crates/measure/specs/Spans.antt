@@ -5,13 +5,15 @@ use lib.Dec.{eqb}
 use Rattle.syntax.specs.declared.Token.{Token}
 use Rattle.measure.specs.declared.spans.Span.{Span}
 
+-- from a to before b
 abbrev pub span : ℕ → ℕ → Span
 span a b = record { start = a; end = b }
 
+-- a token covers its length from its place on
 abbrev pub of-token : Token → Span
 of-token t = span (t .place) (t .place + t .length)
 
--- the largest place, where nothing begins
+-- the largest place of 32 bits
 abbrev pub last-place : ℕ
 last-place = 4294967295
 

@@ -30,12 +30,15 @@ pub trait Measure: Sized {
 
     law unit_right: { (x : Self) → join x unit ≡ x };
 
+    /// The measure of no token.
     fn unit() -> Self
         ensures { λ r. ⌜ r ≡ unit ⌝ };
 
+    /// The measure of what `self` covers and `other` behind it.
     fn join(self, other: Self) -> Self
         ensures { λ r. ⌜ r ≡ join self other ⌝ };
 
+    /// The measure of one token.
     fn of(token: Token) -> Self
         ensures { λ r. ⌜ r ≡ of token ⌝ };
 }

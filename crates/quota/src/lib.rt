@@ -13,6 +13,7 @@ pub struct Quota<K> {
 }
 
 impl<K: Sink> Quota<K> {
+    /// Takes the sink over; `left` events of it may follow.
     pub fn new(left: u64, below: K) -> Quota<K>
         ensures { λ r. ⌜ r ≡ record { left = left; below = below } ⌝ }
     {

@@ -1,11 +1,10 @@
 -- No event changes how many values a stack can hold.
-use mathlib.Core.Path.{_≡_, refl, sym, ap, _∙_}
+use mathlib.Core.Path.{_≡_, refl, ap, _∙_}
 use mathlib.Core.Bool.{Bool, true, false, cond, _||_, _&&_}
-use mathlib.Core.List.{List, [], _∷_, _++_}
 use Prim.Native.Nat.{ℕ, _+_, _-_, _≤_}
 use native.Mathlib.Omega.{arith}
 use lib.Dec.{eqb, ltb}
-use lib.ListN.{length, take}
+use lib.ListN.{length}
 use Rattle.std.proofs.shelf.Lists.{length-push, length-take-le}
 use Rattle.std.proofs.shelf.Ways.{tells}
 use Rattle.syntax.specs.declared.Token.{Token}
@@ -25,7 +24,8 @@ second false b e = e
 module _ {V : Type 0} (s : Stack V) where
   sent-capacity : (k : ℕ) (v : V) → k ≤ length (s .list) → full k s ≡ false → capacity (sent k v s) ≡ capacity s
   sent-capacity k v few room =
-      let count = length-push (front k (s .list)) v ∙ ap (λ n. n + 1) (length-take-le (length (s .list) - k) (s .list) (omega arith)) in
+      let kept = length-take-le (length (s .list) - k) (s .list) (omega arith) in
+      let count = length-push (front k (s .list)) v ∙ ap (λ n. n + 1) kept in
       ap (λ n. more n (recount k (s .cells))) count ∙ recounted (s .cells) (length (s .list)) k few (second _ _ room)
 
   where-taken : (b : Bool) (t : Stack V) → (b ≡ false → capacity t ≡ capacity s) → capacity (cond b s t) ≡ capacity s

@@ -33,7 +33,7 @@ abbrev pub recount : ℕ → Count → Count
 recount k endless = endless
 recount k (limited n) = limited ((n + k) - 1)
 
--- k and how many more
+-- k more
 abbrev pub more : ℕ → Count → Count
 more k endless = endless
 more k (limited n) = limited (n + k)

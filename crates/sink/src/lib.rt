@@ -20,6 +20,7 @@ pub enum SinkFault {
 }
 
 impl SinkFault {
+    /// The number under which users know the refusal.
     pub fn number(self) -> u8
         ensures { λ r. ⌜ r ≡ numberOf self ⌝ }
     {
@@ -29,6 +30,7 @@ impl SinkFault {
         }
     }
 
+    /// The length of the list.
     pub fn place(self) -> u64
         ensures { λ r. ⌜ r ≡ placeOf self ⌝ }
     {
@@ -58,14 +60,14 @@ pub trait Sink {
     fn trees(&self) -> u64
         ensures { λ r. ⌜ r ≡ length (meaning (now (self .entry)) .list) ⌝ };
 
-    /// Appends the value of a token.
+    /// Appends the value of a token. A refusal leaves the sink as it was, with all memory behind it.
     fn leaf(&mut self, token: Token) -> Result<(), SinkFault>
         ensures answer { λ r. ⌜ r ≡ leaf-answer (meaning (now (self .entry))) ⌝ }
         ensures after { λ _. ⌜ meaning (now (self .exit)) ≡ leaf-after algebra token (meaning (now (self .entry))) ⌝ }
         ensures memory { λ _. ⌜ grows (now (self .entry)) (now (self .exit)) ⌝ }
         ensures refused { λ r. ⌜ (isErr r ≡ true → now (self .exit) ≡ now (self .entry)) ⌝ };
 
-    /// Replaces the last `children` values by the value of a node over them.
+    /// Replaces the last `children` values by the value of a node over them. A refusal leaves all as it was.
     fn node(&mut self, production: u8, children: u8) -> Result<(), SinkFault>
         ensures answer { λ r. ⌜ r ≡ node-answer children (meaning (now (self .entry))) ⌝ }
         ensures after { λ _. ⌜ meaning (now (self .exit)) ≡ node-after algebra production children (meaning (now (self .entry))) ⌝ }
