@@ -34,7 +34,7 @@ pub(crate) fn right_symbol<T: Hinted>(table: &T, p: u8, k: u8) -> Option<Symbol>
 
 /// No terminal is nullable.
 fn is_nullable<T: Hinted>(table: &T, symbol: Symbol) -> bool
-    ensures { result ≡ nullable_symbol (hints table.now) symbol }
+    ensures { result ≡ nullable_symbol (T.hints table.now) symbol }
 {
     match symbol {
         Symbol::Terminal(_) => false,
@@ -45,7 +45,7 @@ fn is_nullable<T: Hinted>(table: &T, symbol: Symbol) -> bool
 /// A terminal is its own first.
 fn first_terminals<T: Hinted>(table: &T, symbol: Symbol) -> u64
     requires { InRange symbol }
-    ensures { Holds result (first_symbol (hints table.now) symbol) }
+    ensures { Holds result (first_symbol (T.hints table.now) symbol) }
 {
     match symbol {
         Symbol::Terminal(a) => 1 << a,
@@ -55,7 +55,7 @@ fn first_terminals<T: Hinted>(table: &T, symbol: Symbol) -> u64
 
 /// What the right symbols of a production from `from` on begin with, up to the first that is not nullable.
 pub(crate) fn beginning_from<T: Hinted>(table: &T, p: u8, from: u8) -> Beginning
-    ensures { BeginsFrom (T.Table.meaning table.now) (hints table.now) p from result }
+    ensures { BeginsFrom (T.Table.meaning table.now) (T.hints table.now) p from result }
 {
     let mut firsts = 0;
     let mut k = from;

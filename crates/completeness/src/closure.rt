@@ -16,8 +16,8 @@ fn passed_on(nullable: bool, looks: u64) -> u64
 
 /// The first terminals of what stands behind the symbol at the dot, and the look-aheads too if all that is nullable.
 fn wanted<T: Hinted>(table: &T, item: Item) -> u64
-    requires { (HasLooks (hints table.now) item) × (item.dot < 255) }
-    ensures { Holds result (wanted_by (T.Table.meaning table.now) (hints table.now) item) }
+    requires { (HasLooks (T.hints table.now) item) × (item.dot < 255) }
+    ensures { Holds result (wanted_by (T.Table.meaning table.now) (T.hints table.now) item) }
 {
     let behind = beginning_from(table, item.production, item.dot + 1);
     behind.firsts | passed_on(behind.nullable, item.looks)
@@ -26,7 +26,7 @@ fn wanted<T: Hinted>(table: &T, item: Item) -> u64
 /// A first item of production `q` has at least the wanted look-aheads.
 fn first_item_has<T: Hinted>(table: &T, s: u8, q: u8, wanted: u64) -> bool
     requires { OfTerminals wanted }
-    ensures { result ≡ first_has (hints table.now) s wanted q }
+    ensures { result ≡ first_has (T.hints table.now) s wanted q }
 {
     wanted & table.look_aheads(s, q, 0) == wanted
 }
@@ -34,7 +34,7 @@ fn first_item_has<T: Hinted>(table: &T, s: u8, q: u8, wanted: u64) -> bool
 /// Each production of a nonterminal has its first item in the state, with at least the wanted look-aheads.
 fn first_items_have<T: Hinted>(table: &T, s: u8, n: u8, wanted: u64) -> bool
     requires { OfTerminals wanted }
-    ensures { result ≡ all_have (T.Table.meaning table.now) (hints table.now) s n wanted }
+    ensures { result ≡ all_have (T.Table.meaning table.now) (T.hints table.now) s n wanted }
 {
     let mut q = 0;
     while let Some(production) = table.production(q) {
@@ -48,8 +48,8 @@ fn first_items_have<T: Hinted>(table: &T, s: u8, n: u8, wanted: u64) -> bool
 
 /// The item before nonterminal `n` has with it the first items that it asks for.
 pub(crate) fn is_closed<T: Hinted>(table: &T, item: Item, n: u8) -> bool
-    requires { (HasLooks (hints table.now) item) × (item.dot < 255) }
-    ensures { result ≡ closed_on (T.Table.meaning table.now) (hints table.now) item n }
+    requires { (HasLooks (T.hints table.now) item) × (item.dot < 255) }
+    ensures { result ≡ closed_on (T.Table.meaning table.now) (T.hints table.now) item n }
 {
     first_items_have(table, item.state, n, wanted(table, item))
 }

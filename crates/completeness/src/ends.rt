@@ -31,8 +31,8 @@ pub(crate) fn has_end(set: u64) -> bool
 }
 
 fn accepts_at_end<T: Hinted>(table: &T, item: Item) -> bool
-    requires { HasLooks (hints table.now) item }
-    ensures { result ≡ accepted_at_end (T.Table.meaning table.now) (hints table.now) item }
+    requires { HasLooks (T.hints table.now) item }
+    ensures { result ≡ accepted_at_end (T.Table.meaning table.now) (T.hints table.now) item }
 {
     !has_end(item.looks) || accepts(decide(table, item.state, END))
 }
@@ -48,8 +48,8 @@ fn reduces_by(p: u8, action: Action) -> bool
 
 /// The action on each look-ahead reduces; of use where the state has no default.
 fn actions_reduce<T: Hinted>(table: &T, item: Item) -> bool
-    requires { HasLooks (hints table.now) item }
-    ensures { result ≡ actions_reduced (T.Table.meaning table.now) (hints table.now) item }
+    requires { HasLooks (T.hints table.now) item }
+    ensures { result ≡ actions_reduced (T.Table.meaning table.now) (T.hints table.now) item }
 {
     for a in 0..TERMINALS {
         if (item.looks >> a) % 2 == 1 && !reduces_by(item.production, table.action(item.state, a)) {
@@ -61,8 +61,8 @@ fn actions_reduce<T: Hinted>(table: &T, item: Item) -> bool
 
 /// A default decides for all look-aheads at once.
 fn reduces<T: Hinted>(table: &T, item: Item) -> bool
-    requires { HasLooks (hints table.now) item }
-    ensures { result ≡ reduced (T.Table.meaning table.now) (hints table.now) item }
+    requires { HasLooks (T.hints table.now) item }
+    ensures { result ≡ reduced (T.Table.meaning table.now) (T.hints table.now) item }
 {
     match table.default_reduction(item.state) {
         Some(p) => p == item.production || item.looks == 0,
@@ -72,8 +72,8 @@ fn reduces<T: Hinted>(table: &T, item: Item) -> bool
 
 /// The added production accepts, any other is reduced; one that is absent has no item.
 pub(crate) fn ends<T: Hinted>(table: &T, item: Item) -> bool
-    requires { HasLooks (hints table.now) item }
-    ensures { result ≡ complete_at_end (T.Table.meaning table.now) (hints table.now) item }
+    requires { HasLooks (T.hints table.now) item }
+    ensures { result ≡ complete_at_end (T.Table.meaning table.now) (T.hints table.now) item }
 {
     if item.production == ADDED {
         return accepts_at_end(table, item);

@@ -8,7 +8,7 @@ use hinted::Hinted;
 
 /// Of the right sides of a nonterminal, taken together.
 fn beginning_of_all<T: Hinted>(table: &T, n: u8) -> Beginning
-    ensures { BeginsAsAll (T.Table.meaning table.now) (hints table.now) n result }
+    ensures { BeginsAsAll (T.Table.meaning table.now) (T.hints table.now) n result }
 {
     let mut firsts = 0;
     let mut nullable = false;
@@ -26,7 +26,7 @@ fn beginning_of_all<T: Hinted>(table: &T, n: u8) -> Beginning
 
 /// A nonterminal is nullable exactly where some right side of it is, and has their first terminals for its own.
 pub fn equations_hold<T: Hinted>(table: &T, n: u8) -> bool
-    ensures { result ≡ equations_hold (T.Table.meaning table.now) (hints table.now) n }
+    ensures { result ≡ equations_hold (T.Table.meaning table.now) (T.hints table.now) n }
 {
     let all = beginning_of_all(table, n);
     if table.nullable(n) != all.nullable {

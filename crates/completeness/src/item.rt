@@ -21,8 +21,8 @@ pub(crate) struct Item {
 
 /// The symbol behind the dot is read as the item says.
 fn advances<T: Hinted>(table: &T, item: Item, symbol: Symbol) -> bool
-    requires { (HasLooks (hints table.now) item) × (item.dot < 255) }
-    ensures { result ≡ advanced (T.Table.meaning table.now) (hints table.now) item symbol }
+    requires { (HasLooks (T.hints table.now) item) × (item.dot < 255) }
+    ensures { result ≡ advanced (T.Table.meaning table.now) (T.hints table.now) item symbol }
 {
     match symbol {
         Symbol::Terminal(a) => shifts(table, item, a),
@@ -32,7 +32,7 @@ fn advances<T: Hinted>(table: &T, item: Item, symbol: Symbol) -> bool
 
 /// The item of a production with so many right symbols before its dot; false where there is no such production.
 pub fn item_is_complete<T: Hinted>(table: &T, s: u8, p: u8, dot: u8) -> bool
-    ensures { result ≡ item_at (T.Table.meaning table.now) (hints table.now) s p dot }
+    ensures { result ≡ item_at (T.Table.meaning table.now) (T.hints table.now) s p dot }
 {
     let item = Item {
         state: s,
@@ -48,7 +48,7 @@ pub fn item_is_complete<T: Hinted>(table: &T, s: u8, p: u8, dot: u8) -> bool
 
 /// The item by which a reading begins is there.
 pub fn initial_item_is_there<T: Hinted>(table: &T) -> bool
-    ensures { result ≡ initial_item (T.Table.meaning table.now) (hints table.now) }
+    ensures { result ≡ initial_item (T.Table.meaning table.now) (T.hints table.now) }
 {
     has_end(table.look_aheads(0, ADDED, 0))
 }

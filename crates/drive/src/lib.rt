@@ -21,7 +21,7 @@ pub struct Driven<T, S, K> {
 
 // A mark changes nothing, so that a reading by a table that was not checked goes on as if it were a report.
 fn make<T: Table, S: Source, K: Sink>(reading: &mut Reading<T, S, K>, call: Call)
-    ensures { Made T.Table S.Source K.Sink call reading.old reading.new }
+    ensures { Made T.Table S.Source.own K.Sink call reading.old reading.new }
 {
     match call {
         Call::Turn(n) => {
@@ -37,7 +37,7 @@ fn make<T: Table, S: Source, K: Sink>(reading: &mut Reading<T, S, K>, call: Call
 }
 
 fn close<T: Table, S: Source, K: Sink>(reading: Reading<T, S, K>) -> Driven<T, S, K>
-    ensures { Closed T.Table S.Source K.Sink reading result }
+    ensures { Closed T.Table S.Source.own K.Sink reading result }
 {
     let report = reading.report();
     let (table, source, sink) = reading.finish();
@@ -57,8 +57,8 @@ pub fn drive<T: Table, S: Source, K: Sink>(
     sink: K,
     calls: &[Call],
 ) -> Driven<T, S, K>
-    ensures ran { Ran T.Table S.Source K.Sink table source sink calls.now result }
-    ensures promise { Kept K.Sink.algebra (run_of T.Table S.Source K.Sink table source sink calls.now) }
+    ensures ran { Ran T.Table S.Source.own K.Sink table source sink calls.now result }
+    ensures promise { Kept K.Sink.algebra (run_of T.Table S.Source.own K.Sink table source sink calls.now) }
 {
     let mut reading = Reading::new(table, source, sink);
     for call in calls {
@@ -69,7 +69,7 @@ pub fn drive<T: Table, S: Source, K: Sink>(
 
 // The same with every call made, marks too.
 fn make_checked<T: CheckedTable, S: Source, K: Sink>(reading: &mut Reading<T, S, K>, call: Call)
-    ensures { Made T.Table S.Source K.Sink call reading.old reading.new }
+    ensures { Made T.Table S.Source.own K.Sink call reading.old reading.new }
 {
     match call {
         Call::Mark => {
@@ -86,8 +86,8 @@ pub fn drive_checked<T: CheckedTable, S: Source, K: Sink>(
     sink: K,
     calls: &[Call],
 ) -> Driven<T, S, K>
-    ensures ran { Ran T.Table S.Source K.Sink table source sink calls.now result }
-    ensures promise { Checked K.Sink.algebra (run_of T.Table S.Source K.Sink table source sink calls.now) }
+    ensures ran { Ran T.Table S.Source.own K.Sink table source sink calls.now result }
+    ensures promise { Checked K.Sink.algebra (run_of T.Table S.Source.own K.Sink table source sink calls.now) }
 {
     table.validity();
     let mut reading = Reading::new(table, source, sink);

@@ -16,7 +16,7 @@ impl<T: Table, S: Source, K: Sink> Reading<T, S, K> {
     /// Takes over a table, a source and a sink, as they are. No cell is used and no step made.
     pub fn new(table: T, source: S, sink: K) -> Reading<T, S, K>
         ensures parts { (result.table ≡ table) × (result.source ≡ source) × (result.sink ≡ sink) }
-        ensures run { Reaches T.Table S.Source K.Sink (run_of T.Table S.Source K.Sink table source sink []) result }
+        ensures run { Reaches T.Table S.Source.own K.Sink (run_of T.Table S.Source.own K.Sink table source sink []) result }
     {
         Reading {
             table,
@@ -41,8 +41,8 @@ impl<T: Table, S: Source, K: Sink> Reading<T, S, K> {
     /// Makes up to `n` steps and answers the outcome. Declined when the reading has ended, else when `n` could bring the
     /// steps above 1,000,000,000,000.
     pub fn turn(&mut self, n: u16) -> Result<Outcome, Declined>
-        ensures answer { result ≡ turn_answer K.Sink.algebra n (reads T.Table S.Source K.Sink self.old) }
-        ensures made { Made T.Table S.Source K.Sink (Turn n) self.old self.new }
+        ensures answer { result ≡ turn_answer K.Sink.algebra n (reads T.Table S.Source.own K.Sink self.old) }
+        ensures made { Made T.Table S.Source.own K.Sink (Turn n) self.old self.new }
     {
         if let Phase::Ended(_) = self.phase {
             return Err(Declined::Ended { steps: self.steps });
@@ -56,8 +56,8 @@ impl<T: Table, S: Source, K: Sink> Reading<T, S, K> {
 
     /// Ends the reading, stopped. Declined when it has ended.
     pub fn stop(&mut self) -> Result<(), Declined>
-        ensures answer { result ≡ stop_answer K.Sink.algebra (reads T.Table S.Source K.Sink self.old) }
-        ensures made { Made T.Table S.Source K.Sink Stop self.old self.new }
+        ensures answer { result ≡ stop_answer K.Sink.algebra (reads T.Table S.Source.own K.Sink self.old) }
+        ensures made { Made T.Table S.Source.own K.Sink Stop self.old self.new }
     {
         if let Phase::Ended(_) = self.phase {
             return Err(Declined::Ended { steps: self.steps });
@@ -68,9 +68,9 @@ impl<T: Table, S: Source, K: Sink> Reading<T, S, K> {
 
     /// Tells the outcome and all steps made, at any time.
     pub fn report(&self) -> Report
-        ensures answer { result ≡ told (reads T.Table S.Source K.Sink self.now) }
-        ensures made { Made T.Table S.Source K.Sink Tell self.now self.now }
-        ensures promise { OfRuns T.Table S.Source K.Sink (Kept K.Sink.algebra) self.now }
+        ensures answer { result ≡ told (reads T.Table S.Source.own K.Sink self.now) }
+        ensures made { Made T.Table S.Source.own K.Sink Tell self.now self.now }
+        ensures promise { OfRuns T.Table S.Source.own K.Sink (Kept K.Sink.algebra) self.now }
     {
         Report {
             outcome: self.outcome(),
@@ -81,7 +81,7 @@ impl<T: Table, S: Source, K: Sink> Reading<T, S, K> {
     /// Hands all parts back as they stand.
     pub fn finish(self) -> (T, S, K)
         ensures parts { (result.0 ≡ self.table) × (result.1 ≡ self.source) × (result.2 ≡ self.sink) }
-        ensures promise { OfRuns T.Table S.Source K.Sink (Finished T.Table S.Source K.Sink result.0 result.1 result.2) self }
+        ensures promise { OfRuns T.Table S.Source.own K.Sink (Finished T.Table S.Source.own K.Sink result.0 result.1 result.2) self }
     {
         let Reading {
             table,
@@ -99,9 +99,9 @@ impl<T: Table, S: Source, K: Sink> Reading<T, S, K> {
 impl<T: CheckedTable, S: Source, K: Sink> Reading<T, S, K> {
     /// Tells of an ended reading what report tells, by a table that was checked. Declined before the end.
     pub fn mark(&self) -> Result<Report, Declined>
-        ensures answer { result ≡ mark_answer K.Sink.algebra (reads T.Table S.Source K.Sink self.now) }
-        ensures made { Made T.Table S.Source K.Sink Mark self.now self.now }
-        ensures promise { OfRuns T.Table S.Source K.Sink (Checked K.Sink.algebra) self.now }
+        ensures answer { result ≡ mark_answer K.Sink.algebra (reads T.Table S.Source.own K.Sink self.now) }
+        ensures made { Made T.Table S.Source.own K.Sink Mark self.now self.now }
+        ensures promise { OfRuns T.Table S.Source.own K.Sink (Checked K.Sink.algebra) self.now }
     {
         self.table.validity();
         match self.phase {

@@ -150,7 +150,7 @@ impl<T: Table, S: Source, K: Sink> Reading<T, S, K> {
         requires few { self.old.steps < most_steps }
         ensures near { Near K.Sink self.old self.new }
         ensures phase { self.new.phase ≡ self.old.phase }
-        ensures after { noted result (reads T.Table S.Source K.Sink self.new) ≡ shifting K.Sink.algebra to (reads T.Table S.Source K.Sink self.old) (listed next) }
+        ensures after { noted result (reads T.Table S.Source.own K.Sink self.new) ≡ shifting K.Sink.algebra to (reads T.Table S.Source.own K.Sink self.old) (listed next) }
     {
         let Some(token) = next else {
             return Err(Halt::Slip { number: 4 });
@@ -170,7 +170,7 @@ impl<T: Table, S: Source, K: Sink> Reading<T, S, K> {
         requires few { self.old.steps < most_steps }
         ensures near { Near K.Sink self.old self.new }
         ensures phase { self.new.phase ≡ self.old.phase }
-        ensures after { noted result (reads T.Table S.Source K.Sink self.new) ≡ reducing K.Sink.algebra production ((T.Table.meaning self.old.table).grammar production) (reads T.Table S.Source K.Sink self.old) }
+        ensures after { noted result (reads T.Table S.Source.own K.Sink self.new) ≡ reducing K.Sink.algebra production ((T.Table.meaning self.old.table).grammar production) (reads T.Table S.Source.own K.Sink self.old) }
     {
         let landing = land(&self.table, production, &self.cells[..self.used])?;
         let under = self.used - usize::from(landing.children);
@@ -189,7 +189,7 @@ impl<T: Table, S: Source, K: Sink> Reading<T, S, K> {
         requires few { self.old.steps + left ≤ most_steps }
         ensures near { Near K.Sink self.old self.new }
         ensures on { result ≡ Ok true → (0 < left) × (self.new.phase ≡ Going_on) }
-        ensures after { onward K.Sink.algebra left result (reads T.Table S.Source K.Sink self.new) ≡ going K.Sink.algebra left (reads T.Table S.Source K.Sink self.old) }
+        ensures after { onward K.Sink.algebra left result (reads T.Table S.Source.own K.Sink self.new) ≡ going K.Sink.algebra left (reads T.Table S.Source.own K.Sink self.old) }
     {
         let state = last_of(&self.cells[..self.used]);
         let found = find(&self.table, &mut self.source, state)?;
@@ -231,7 +231,7 @@ impl<T: Table, S: Source, K: Sink> Reading<T, S, K> {
         requires few { self.old.steps + n ≤ most_steps }
         ensures table { self.new.table ≡ self.old.table }
         ensures memory { K.Sink.grows self.old.sink self.new.sink }
-        ensures after { noted result (reads T.Table S.Source K.Sink self.new) ≡ going K.Sink.algebra n (reads T.Table S.Source K.Sink self.old) }
+        ensures after { noted result (reads T.Table S.Source.own K.Sink self.new) ≡ going K.Sink.algebra n (reads T.Table S.Source.own K.Sink self.old) }
     {
         let mut left = n;
         while self.step(left)? {
@@ -246,7 +246,7 @@ impl<T: Table, S: Source, K: Sink> Reading<T, S, K> {
         requires few { self.old.steps + n ≤ most_steps }
         ensures table { self.new.table ≡ self.old.table }
         ensures memory { K.Sink.grows self.old.sink self.new.sink }
-        ensures after { reads T.Table S.Source K.Sink self.new ≡ going K.Sink.algebra n (reads T.Table S.Source K.Sink self.old) }
+        ensures after { reads T.Table S.Source.own K.Sink self.new ≡ going K.Sink.algebra n (reads T.Table S.Source.own K.Sink self.old) }
     {
         if let Err(halt) = self.advance(n) {
             self.phase = Phase::Ended(Outcome::Halted(halt));

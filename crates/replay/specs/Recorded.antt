@@ -1,6 +1,6 @@
 -- What a recorder means, and what events make of it.
 use Rattle.std.specs.Prelude.{◌≡◌, ℕ, min, List, [], map}
-use Rattle.std.specs.Borrow.{Bor}
+use Rattle.std.specs.Borrow.{MutBor}
 use Rattle.sink.specs.Stacks.{Stack, endless, limited}
 use Rattle.quota.specs.Capped.{capped}
 use Rattle.trace.specs.Records.{leaf_record, node_record, postfix, places}
@@ -12,7 +12,7 @@ use Rattle.replay.specs.declared.recorder.Recorder.{Recorder}
 use Rattle.replay.specs.Events.{Answer, sent_all, taken}
 
 -- a new recorder over some bytes
-abbrev pub fresh : ℕ → Bor (List ℕ) → Recorder
+abbrev pub fresh : ℕ → MutBor (List ℕ) → Recorder
 fresh limit bytes = record { sink = record { left = limit; below = record { bytes = bytes; records = 0; trees = 0 } } }
 
 -- the list of its trace, with no more records than its quota leaves

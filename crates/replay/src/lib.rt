@@ -19,10 +19,10 @@ pub enum Event {
 
 /// Sends one event. Whatever its answer, the sink can hold as many values as before.
 pub fn send<K: Sink>(sink: &mut K, event: Event) -> Result<(), SinkFault>
-    ensures answer { result ≡ answer_of event (meaning sink.old) }
-    ensures after { meaning sink.new ≡ after_of algebra event (meaning sink.old) }
-    ensures capacity { capacity (meaning sink.new) ≡ capacity (meaning sink.old) }
-    ensures memory { grows sink.old sink.new }
+    ensures answer { result ≡ answer_of event (K.meaning sink.old) }
+    ensures after { K.meaning sink.new ≡ after_of K.algebra event (K.meaning sink.old) }
+    ensures capacity { capacity (K.meaning sink.new) ≡ capacity (K.meaning sink.old) }
+    ensures memory { K.grows sink.old sink.new }
     ensures refused { is_err result ≡ true → sink.new ≡ sink.old }
 {
     match event {
@@ -37,7 +37,7 @@ pub fn send<K: Sink>(sink: &mut K, event: Event) -> Result<(), SinkFault>
 /// Sends events in order; the first that is refused ends it.
 pub fn send_all<K: Sink>(sink: &mut K, events: &[Event]) -> Result<(), SinkFault>
     ensures sent { Sent K.Sink events.now sink.old result sink.new }
-    ensures memory { grows sink.old sink.new }
+    ensures memory { K.grows sink.old sink.new }
 {
     for event in events {
         send(sink, *event)?;

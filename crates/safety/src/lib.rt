@@ -18,14 +18,14 @@ mod symbols;
 
 /// A shift or a goto from `s` leads to `to`: what is said to lie below `to` lies there whenever `s` is on top.
 pub fn edge_is_safe<T: Hinted>(table: &T, s: u8, to: u8) -> bool
-    ensures { result ≡ edge_safe narrow (T.Table.meaning table.now) (hints table.now) s to }
+    ensures { result ≡ edge_safe narrow (T.Table.meaning table.now) (T.hints table.now) s to }
 {
     lies_on_top(table, Symbols::Past(to), s) && is_covered(table, s, to)
 }
 
 /// Production `p` is reduced in `s`: its right side lies on top, and every state that can lie below it has the goto.
 pub fn reduce_is_safe<T: Hinted>(table: &T, s: u8, p: u8) -> bool
-    ensures { result ≡ reduce_safe narrow (T.Table.meaning table.now) (hints table.now) s p }
+    ensures { result ≡ reduce_safe narrow (T.Table.meaning table.now) (T.hints table.now) s p }
 {
     match table.production(p) {
         None => false,
@@ -38,14 +38,14 @@ pub fn reduce_is_safe<T: Hinted>(table: &T, s: u8, p: u8) -> bool
 
 /// A text is accepted in `s`: the start, and nothing else, lies on top of the initial state.
 pub fn accept_is_safe<T: Hinted>(table: &T, s: u8) -> bool
-    ensures { result ≡ accept_safe narrow (T.Table.meaning table.now) (hints table.now) s }
+    ensures { result ≡ accept_safe narrow (T.Table.meaning table.now) (T.hints table.now) s }
 {
     // State 0 is entered by no symbol, so it fails the first test.
     is_start(table.incoming(s)) && initial_below(table, s)
 }
 
 pub fn action_is_safe<T: Hinted>(table: &T, s: u8, action: Action) -> bool
-    ensures { result ≡ action_safe narrow (T.Table.meaning table.now) (hints table.now) s action }
+    ensures { result ≡ action_safe narrow (T.Table.meaning table.now) (T.hints table.now) s action }
 {
     match action {
         Action::Shift(to) => edge_is_safe(table, s, to),
@@ -57,7 +57,7 @@ pub fn action_is_safe<T: Hinted>(table: &T, s: u8, action: Action) -> bool
 
 /// Every state that can lie at a depth, whenever `s` is on top, has a goto on nonterminal `n`.
 fn all_below_go<T: Hinted>(table: &T, s: u8, depth: u8, n: u8) -> bool
-    ensures { result ≡ all_below_go (T.Table.meaning table.now) (hints table.now) s depth n }
+    ensures { result ≡ all_below_go (T.Table.meaning table.now) (T.hints table.now) s depth n }
 {
     match shadow_set(table, s, depth) {
         None => false,
@@ -76,7 +76,7 @@ fn is_start(symbol: Option<Symbol>) -> bool
 
 /// The initial state, and no other, can lie below `s`, and nothing below that.
 fn initial_below<T: Hinted>(table: &T, s: u8) -> bool
-    ensures { result ≡ initial_below (T.Table.meaning table.now) (hints table.now) s }
+    ensures { result ≡ initial_below (T.Table.meaning table.now) (T.hints table.now) s }
 {
     match table.past_set(s, 0) {
         None => false,

@@ -22,7 +22,7 @@ fn only(s: u8) -> u64
 
 /// The states that can lie at a depth whenever `s` is on top: at 0 itself, then its past sets.
 pub(crate) fn shadow_set<T: Hinted>(table: &T, s: u8, depth: u8) -> Option<u64>
-    ensures { HoldsIfAny result (nth (marked (hints table.now) s) depth) }
+    ensures { HoldsIfAny result (nth (marked (T.hints table.now) s) depth) }
 {
     if depth == 0 {
         Some(only(s))
@@ -40,7 +40,7 @@ fn is_within(lower: u64, set: u64) -> bool
 
 /// At each depth at which `to` has a past set, it has all states that can lie there when `s` is on top.
 pub(crate) fn is_covered<T: Hinted>(table: &T, s: u8, to: u8) -> bool
-    ensures { result ≡ covered (hints table.now) s to }
+    ensures { result ≡ covered (T.hints table.now) s to }
 {
     for depth in 0..DEEPEST {
         let Some(set) = table.past_set(to, depth) else {
@@ -73,7 +73,7 @@ fn above(set: u64, gap: u32) -> u64
 
 /// Every state of a set has a goto on nonterminal `n`.
 pub(crate) fn all_go<T: Hinted>(table: &T, set: u64, n: u8) -> bool
-    ensures { result ≡ all_members_go (T.Table.meaning table.now) (hints table.now) set n }
+    ensures { result ≡ all_members_go (T.Table.meaning table.now) (T.hints table.now) set n }
 {
     let mut rest = set;
     let mut s = 0;

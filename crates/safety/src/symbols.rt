@@ -19,7 +19,7 @@ pub(crate) enum Symbols {
 
 /// Symbol `k`, counted from the far end.
 fn symbol_of<T: Hinted>(table: &T, symbols: Symbols, k: u8) -> Option<Symbol>
-    ensures { result ≡ nth (listed (T.Table.meaning table.now) (hints table.now) symbols) k }
+    ensures { result ≡ nth (listed (T.Table.meaning table.now) (T.hints table.now) symbols) k }
 {
     match symbols {
         Symbols::Past(s) => table.past_symbol(s, k),
@@ -28,7 +28,7 @@ fn symbol_of<T: Hinted>(table: &T, symbols: Symbols, k: u8) -> Option<Symbol>
 }
 
 fn length_of<T: Hinted>(table: &T, symbols: Symbols) -> u8
-    ensures { result ≡ length (listed (T.Table.meaning table.now) (hints table.now) symbols) }
+    ensures { result ≡ length (listed (T.Table.meaning table.now) (T.hints table.now) symbols) }
 {
     match symbols {
         Symbols::Past(s) => table.past_length(s),
@@ -41,8 +41,8 @@ fn length_of<T: Hinted>(table: &T, symbols: Symbols) -> u8
 
 /// How many symbols are known to lie on top in a state: its past ones and the one that enters it.
 fn trail_length<T: Hinted>(table: &T, s: u8, past: u8) -> u8
-    requires { past ≡ length ((hints table.now).past_symbols s) }
-    ensures { result ≡ length (trail (T.Table.meaning table.now) (hints table.now) s) }
+    requires { past ≡ length ((T.hints table.now).past_symbols s) }
+    ensures { result ≡ length (trail (T.Table.meaning table.now) (T.hints table.now) s) }
 {
     match table.incoming(s) {
         None => past,
@@ -52,8 +52,8 @@ fn trail_length<T: Hinted>(table: &T, s: u8, past: u8) -> u8
 
 /// Symbol `k` of these, counted from the far end.
 fn trail_symbol<T: Hinted>(table: &T, s: u8, past: u8, k: u8) -> Option<Symbol>
-    requires { past ≡ length ((hints table.now).past_symbols s) }
-    ensures { result ≡ nth (trail (T.Table.meaning table.now) (hints table.now) s) k }
+    requires { past ≡ length ((T.hints table.now).past_symbols s) }
+    ensures { result ≡ nth (trail (T.Table.meaning table.now) (T.hints table.now) s) k }
 {
     if k < past {
         table.past_symbol(s, k)
@@ -77,8 +77,8 @@ fn is_same(a: Option<Symbol>, b: Option<Symbol>) -> bool
 
 /// Symbol `k` is the one that lies on top in `s` with as many symbols above it; `beyond` more are known to lie there.
 fn lies_there<T: Hinted>(table: &T, symbols: Symbols, s: u8, past: u8, beyond: u8, k: u8) -> bool
-    requires { (past ≡ length ((hints table.now).past_symbols s)) × (beyond + k < 256) }
-    ensures { result ≡ same_at (T.Table.meaning table.now) (hints table.now) symbols s beyond k }
+    requires { (past ≡ length ((T.hints table.now).past_symbols s)) × (beyond + k < 256) }
+    ensures { result ≡ same_at (T.Table.meaning table.now) (T.hints table.now) symbols s beyond k }
 {
     is_same(
         symbol_of(table, symbols, k),
@@ -88,7 +88,7 @@ fn lies_there<T: Hinted>(table: &T, symbols: Symbols, s: u8, past: u8, beyond: u
 
 /// The symbols are the last ones known to lie on top in `s`.
 pub(crate) fn lies_on_top<T: Hinted>(table: &T, symbols: Symbols, s: u8) -> bool
-    ensures { result ≡ on_top (T.Table.meaning table.now) (hints table.now) symbols s }
+    ensures { result ≡ on_top (T.Table.meaning table.now) (T.hints table.now) symbols s }
 {
     let length = length_of(table, symbols);
     let past = table.past_length(s);

@@ -6,24 +6,24 @@ use Rattle.pile.specs.Piles.{add_all}
 use Rattle.pile.proofs.Row.{words_more, added_ok, answers_on, answers_here}
 use Rattle.pile.proofs.add_all.Goals as goal
 
-pub returns-in-err-add : goal.returns-in-err-add
-returns-in-err-add g c =
+pub returns-in_err-add : goal.returns-in_err-add
+returns-in_err-add g c =
     let l = c.loop-word in
-    let told = c.in-err-add.ensures in
-    let out = err_from_is_err_and c.from-residual.result c.from-residual.ensures.1 in
+    let told = c.in_err-add.ensures in
+    let out = err_from_is_err_and c.from_residual.result c.from_residual.ensures.1 in
     let before = listing c.args.keywords.now.words in
     let words = c.args.words.now in
     let here = answers_here before _ words l.word-index _ c.loop-word-test.true _ told.answer in
     record {
       answer = out.1 ∙ ap Err out.2 ∙ here ∙ l.invariant.1;
-      listed = IfOk-from_err c.from-residual.result _ c.from-residual.ensures.0;
+      listed = IfOk-from_err c.from_residual.result _ c.from_residual.ensures.0;
       below = told.below ∙ l.invariant.2;
     }
 
 pub loop-word-preserved : goal.loop-word-preserved
 loop-word-preserved g c =
     let l = c.loop-word in
-    let told = c.in-ok-add.ensures in
+    let told = c.in_ok-add.ensures in
     let before = listing c.args.keywords.now.words in
     let words = c.args.words.now in
     let lt = c.loop-word-test.true in

@@ -13,7 +13,7 @@ loop-event-preserved g c =
     let es = c.args.events.now in
     let i = c.loop-event.event-index in
     let s = c.loop-event.sink in
-    let ok = sym c.send.ensures.answer ∙ c.in-ok-send.was in
+    let ok = sym c.send.ensures.answer ∙ c.in_ok-send.was in
     let rest = ap (sent_all k.algebra (drop (i + 1) es)) c.send.ensures.after in
     let on = goes_on k.algebra (k.meaning s) es i _ c.loop-event-test.true ok in
     (rest ∙ sym on ∙ c.loop-event.invariant.0, k.onward _ s _ c.loop-event.invariant.1 c.send.ensures.memory)
@@ -25,13 +25,13 @@ returns g c =
     let end = done k.algebra s c.args.events.now c.loop-event.event-index c.loop-event-test.false in
     record { sent = sym end ∙ c.loop-event.invariant.0; memory = c.loop-event.invariant.1 }
 
-pub returns-in-err-send : goal.returns-in-err-send
-returns-in-err-send g c =
+pub returns-in_err-send : goal.returns-in_err-send
+returns-in_err-send g c =
     let k = g.K.Sink in
     let s = c.loop-event.sink in
     let es = c.args.events.now in
-    let bad = c.in-err-send.was in
-    let told = err_from_is_err_and c.from-residual.result c.from-residual.ensures.1 in
+    let bad = c.in_err-send.was in
+    let told = err_from_is_err_and c.from_residual.result c.from_residual.ensures.1 in
     let unmoved = c.send.ensures.refused (ap is_err bad) in
     let refused = sym c.send.ensures.answer ∙ bad in
     let within = c.loop-event-test.true in

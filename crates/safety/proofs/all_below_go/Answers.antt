@@ -13,4 +13,4 @@ returns-in-Some g c =
     let M = g.T.Table.meaning c.args.table.now in
     let H = g.T.Hinted.hints c.args.table.now in
     let found = go_found M H c.args.s c.args.n c.args.depth c.in-Some.set c.in-Some.ensures in
-    c.all-go.ensures ∙ found
+    c.all_go.ensures ∙ found

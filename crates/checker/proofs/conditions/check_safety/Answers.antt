@@ -9,28 +9,28 @@ use Rattle.checker.proofs.conditions.check_safety.Goals as goal
 pub loop-row-init : goal.loop-row-init
 loop-row-init c = (first_start _, omega arith)
 
-pub overflow-cast-result : goal.overflow-cast-result
-overflow-cast-result c = omega (arith, few (contents c.args.raw.now) c.args.raw.now.opens, c.loop-row.invariant.1)
+pub overflow_cast-result : goal.overflow_cast-result
+overflow_cast-result c = omega (arith, few (contents c.args.raw.now) c.args.raw.now.opens, c.loop-row.invariant.1)
 
-pub returns-then-not-is-safe : goal.returns-then-not-is-safe
-returns-then-not-is-safe c =
+pub returns-then-not-is_safe : goal.returns-then-not-is_safe
+returns-then-not-is_safe c =
     let sh = sheet_in c.args.raw.now in
     let there = c.in-Some.ensures in
     let (lt, is) = place_some sh c.loop-row.i _ there in
-    refuses_at _ _ _ _ c.loop-row.invariant.0 (unsafe_here sh _ _ there _ c.if-not-is-safe.ensures) lt
+    refuses_at _ _ _ _ c.loop-row.invariant.0 (unsafe_here sh _ _ there _ c.if-not-is_safe.ensures) lt
 
-pub overflow-add-i : goal.overflow-add-i
-overflow-add-i c = omega (arith, few (contents c.args.raw.now) c.args.raw.now.opens, c.loop-row.invariant.1)
+pub overflow_add-i : goal.overflow_add-i
+overflow_add-i c = omega (arith, few (contents c.args.raw.now) c.args.raw.now.opens, c.loop-row.invariant.1)
 
 pub loop-row-preserved : goal.loop-row-preserved
 loop-row-preserved c =
     let sh = sheet_in c.args.raw.now in
     let there = c.in-Some.ensures in
     let (lt, is) = place_some sh c.loop-row.i _ there in
-    let here = unsafe_here sh _ _ there _ c.if-not-is-safe.ensures in
+    let here = unsafe_here sh _ _ there _ c.if-not-is_safe.ensures in
     (first_more _ _ c.loop-row.invariant.0 here, omega arith)
 
 pub returns : goal.returns
 returns c =
-    let end = place_none (sheet_in c.args.raw.now) c.loop-row.i c.in-default.ensures in
+    let end = place_none (sheet_in c.args.raw.now) c.loop-row.i c.in_default.ensures in
     refuses_nothing _ _ c.loop-row.i c.loop-row.invariant.0 (omega (arith, c.loop-row.invariant.1))

@@ -14,22 +14,22 @@ loop-symbol-init g c =
     let all = rights (g.T.Table.meaning c.args.table.now).grammar c.args.p in
     (refl, λ a. ap (λ b. b || first_of H (drop c.args.from all) a) (holds_none a))
 
-pub first-terminals-firsts-requires : goal.first-terminals-firsts-requires
-first-terminals-firsts-requires g c =
+pub first_terminals-firsts-requires : goal.first_terminals-firsts-requires
+first_terminals-firsts-requires g c =
     let t = c.args.table.now in
     let ranged = rights_ranged (g.T.Table.meaning t) (g.T.Table.lawful t) c.args.p in
-    let found = sym c.right-symbol.ensures ∙ c.in-Some.is in
+    let found = sym c.right_symbol.ensures ∙ c.in-Some.is in
     every_nth InRange _ c.loop-symbol.k c.in-Some.symbol ranged.1 found
 
-pub returns-then-not-is-nullable : goal.returns-then-not-is-nullable
-returns-then-not-is-nullable g c =
+pub returns-then-not-is_nullable : goal.returns-then-not-is_nullable
+returns-then-not-is_nullable g c =
     let H = g.T.Hinted.hints c.args.table.now in
     let α = rights (g.T.Table.meaning c.args.table.now).grammar c.args.p in
     let k = c.loop-symbol.k in
     let X = c.in-Some.symbol in
-    let found = sym c.right-symbol.ensures ∙ c.in-Some.is in
-    let first = c.first-terminals-firsts in
-    let last = sym c.if-not-is-nullable.ensures in
+    let found = sym c.right_symbol.ensures ∙ c.in-Some.is in
+    let first = c.first_terminals-firsts in
+    let last = sym c.if-not-is_nullable.ensures in
     record {
       firsts = λ a.
           first_end H α k X found c.loop-symbol.firsts first.result first.ensures a last
@@ -37,17 +37,17 @@ returns-then-not-is-nullable g c =
       nullable = nullable_end H α k X found last ∙ c.loop-symbol.invariant.0;
     }
 
-pub overflow-add-k : goal.overflow-add-k
-overflow-add-k g c =
+pub overflow_add-k : goal.overflow_add-k
+overflow_add-k g c =
     let t = c.args.table.now in
     let ranged = rights_ranged (g.T.Table.meaning t) (g.T.Table.lawful t) c.args.p in
-    let found = sym c.right-symbol.ensures ∙ c.in-Some.is in
+    let found = sym c.right_symbol.ensures ∙ c.in-Some.is in
     let within = nth_within _ c.loop-symbol.k c.in-Some.symbol found in
     omega (arith, ranged.0)
 
 pub loop-symbol-smaller : goal.loop-symbol-smaller
 loop-symbol-smaller g c =
-    let found = sym c.right-symbol.ensures ∙ c.in-Some.is in
+    let found = sym c.right_symbol.ensures ∙ c.in-Some.is in
     let within = nth_within _ c.loop-symbol.k c.in-Some.symbol found in
     omega arith
 
@@ -57,9 +57,9 @@ loop-symbol-preserved g c =
     let α = rights (g.T.Table.meaning c.args.table.now).grammar c.args.p in
     let k = c.loop-symbol.k in
     let X = c.in-Some.symbol in
-    let found = sym c.right-symbol.ensures ∙ c.in-Some.is in
-    let first = c.first-terminals-firsts in
-    let on = sym c.if-not-is-nullable.ensures in (
+    let found = sym c.right_symbol.ensures ∙ c.in-Some.is in
+    let first = c.first_terminals-firsts in
+    let on = sym c.if-not-is_nullable.ensures in (
       nullable_on H α k X found on ∙ c.loop-symbol.invariant.0,
       λ a.
           first_on H α k X found c.loop-symbol.firsts first.result first.ensures a on
@@ -70,7 +70,7 @@ pub returns : goal.returns
 returns g c =
     let H = g.T.Hinted.hints c.args.table.now in
     let α = rights (g.T.Table.meaning c.args.table.now).grammar c.args.p in
-    let none = sym (nth_none α c.loop-symbol.k (sym c.right-symbol.ensures ∙ c.in-default.is)) in
+    let none = sym (nth_none α c.loop-symbol.k (sym c.right_symbol.ensures ∙ c.in_default.is)) in
     record {
       firsts = λ a.
           or_nothing (member sixteen c.loop-symbol.firsts a)

@@ -6,15 +6,15 @@ use Rattle.completeness.specs.Items.{first_has}
 use Rattle.completeness.proofs.Rules.{if_left, counted, all_counted, asks, passes}
 use Rattle.completeness.proofs.closure.first_items_have.Goals as goal
 use Rattle.completeness.proofs.closure.first_items_have.Goals.{
-  else-production-n-via-then-production-n+else-not-first-item-has,
+  else-production-n-via-then-production-n+else-not-first_item_has,
   else-production-n-via-else-production-n,
 }
 
 pub loop-production-init : goal.loop-production-init
 loop-production-init g c = (omega arith, below_start _)
 
-pub overflow-add-q : goal.overflow-add-q
-overflow-add-q g c =
+pub overflow_add-q : goal.overflow_add-q
+overflow_add-q g c =
     let t = c.args.table.now in
     let here = sym c.production.ensures ∙ c.in-Some.is in
     omega (arith, counted (g.T.Table.meaning t) (g.T.Table.lawful t) c.loop-production.q _ here)
@@ -25,8 +25,8 @@ loop-production-smaller g c =
     let here = sym c.production.ensures ∙ c.in-Some.is in
     omega (arith, counted (g.T.Table.meaning t) (g.T.Table.lawful t) c.loop-production.q _ here)
 
-pub returns-then-not-first-item-has : goal.returns-then-not-first-item-has
-returns-then-not-first-item-has g c =
+pub returns-then-not-first_item_has : goal.returns-then-not-first_item_has
+returns-then-not-first_item_has g c =
     let t = c.args.table.now in
     let M = g.T.Table.meaning t in
     let lawful = g.T.Table.lawful t in
@@ -37,7 +37,7 @@ returns-then-not-first-item-has g c =
     let H = g.T.Hinted.hints t in
     let f = first_has H c.args.s c.args.wanted in
     let own = asks M lawful c.args.n q x here f c.if-production-n.true in
-    let fails = own ∙ sym c.if-not-first-item-has.ensures in
+    let fails = own ∙ sym c.if-not-first_item_has.ensures in
     sym (below_fails (if_left M.grammar c.args.n f) (rule_count M.grammar) q count.1 fails)
 
 pub loop-production-preserved : goal.loop-production-preserved
@@ -53,9 +53,9 @@ loop-production-preserved g c =
     let f = first_has H c.args.s c.args.wanted in (
       omega arith,
       below_more _ q c.loop-production.invariant.1 (elim c.else-production-n.branch [
-        | else-production-n-via-then-production-n+else-not-first-item-has w ↦
+        | else-production-n-via-then-production-n+else-not-first_item_has w ↦
             asks M lawful c.args.n q x here f w.if-production-n.true
-            ∙ sym w.first-item-has.ensures ∙ w.if-not-first-item-has.false
+            ∙ sym w.first_item_has.ensures ∙ w.if-not-first_item_has.false
         | else-production-n-via-else-production-n w ↦ passes M lawful c.args.n q x here f w.if-production-n.false
       ]),
     )
@@ -65,7 +65,7 @@ returns g c =
     let t = c.args.table.now in
     let M = g.T.Table.meaning t in
     let H = g.T.Hinted.hints t in
-    let none = sym c.production.ensures ∙ c.in-default.is in
+    let none = sym c.production.ensures ∙ c.in_default.is in
     let all = all_counted M (g.T.Table.lawful t) c.loop-production.q c.loop-production.invariant.0 none in
     let f = first_has H c.args.s c.args.wanted in
     sym c.loop-production.invariant.1 ∙ ap (λ n. below n (if_left M.grammar c.args.n f)) all

@@ -5,8 +5,8 @@ use Rattle.layout.specs.CompletenessTests.{each_rule}
 use Rattle.completeness.proofs.Items.{wanted_few}
 use Rattle.completeness.proofs.closure.is_closed.Goals as goal
 
-pub first-items-have-requires : goal.first-items-have-requires
-first-items-have-requires g c =
+pub first_items_have-requires : goal.first_items_have-requires
+first_items_have-requires g c =
     let t = c.args.table.now in
     wanted_few (g.T.Table.meaning t) (g.T.Table.lawful t) (g.T.Hinted.hints t) (g.T.Hinted.bounded t)
     c.args.item c.wanted.result c.wanted.ensures
@@ -18,5 +18,5 @@ returns g c =
     let looks = (g.T.Hinted.hints t).look_aheads in
     let s = c.args.item.state in
     let n = c.args.n in
-    c.first-items-have.ensures
+    c.first_items_have.ensures
     ∙ (λ i. each_rule G n (λ q. subset terminals (λ a. c.wanted.ensures a i) (looks s q 0)))

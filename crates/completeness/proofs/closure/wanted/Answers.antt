@@ -9,9 +9,9 @@ pub returns : goal.returns
 returns g c =
     let x = c.args.item in
     let t = c.args.table.now in
-    let begins = c.beginning-from-behind in
+    let begins = c.beginning_from-behind in
     let f = begins.result.firsts in
-    let passed = c.passed-on.ensures ∙ ap (λ b. cond b x.looks 0) begins.ensures.nullable in
+    let passed = c.passed_on.ensures ∙ ap (λ b. cond b x.looks 0) begins.ensures.nullable in
     let holds = wanted_holds (g.T.Hinted.hints t) (behind (g.T.Table.meaning t).grammar x) _ f x.looks
     begins.ensures.firsts c.requires.0
     in

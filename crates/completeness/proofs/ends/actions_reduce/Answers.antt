@@ -8,21 +8,21 @@ use Rattle.completeness.specs.Items.{looks_of}
 use Rattle.completeness.proofs.Bits.{bit_is}
 use Rattle.completeness.proofs.ends.actions_reduce.Goals as goal
 use Rattle.completeness.proofs.ends.actions_reduce.Goals.{
-  else-item-a-eq1-via-then-item-a-eq1+else-not-reduces-by,
+  else-item-a-eq1-via-then-item-a-eq1+else-not-reduces_by,
   else-item-a-eq1-via-else-item-a-eq1,
 }
 
 pub loop-a-init : goal.loop-a-init
 loop-a-init g c = below_start _
 
-pub returns-then-not-reduces-by : goal.returns-then-not-reduces-by
-returns-then-not-reduces-by g c =
+pub returns-then-not-reduces_by : goal.returns-then-not-reduces_by
+returns-then-not-reduces_by g c =
     let t = c.args.table.now in
     let x = c.args.item in
     let a = c.loop-a.a in
     let X = looks_of (g.T.Hinted.hints t) x in
     let is = sym (bit_is x.looks X c.requires a (omega arith)) ∙ eq-eqb _ 1 c.if-item-a-eq1.true in
-    let not = ap (reduces_by x.production) (sym c.action.ensures) ∙ sym c.if-not-reduces-by.ensures in
+    let not = ap (reduces_by x.production) (sym c.action.ensures) ∙ sym c.if-not-reduces_by.ensures in
     sym (below_fails _ terminals a (omega arith) (ap₂ implies is not))
 
 pub loop-a-preserved : goal.loop-a-preserved
@@ -35,10 +35,10 @@ loop-a-preserved g c =
     let bit = sym (bit_is x.looks X c.requires a (omega arith)) in
     let red = reduces_by x.production (M.action x.state a) in
     below_more _ a c.loop-a.invariant (elim c.else-item-a-eq1.branch [
-      | else-item-a-eq1-via-then-item-a-eq1+else-not-reduces-by w ↦
+      | else-item-a-eq1-via-then-item-a-eq1+else-not-reduces_by w ↦
           ap (λ b. implies b red) (bit ∙ eq-eqb _ 1 w.if-item-a-eq1.true)
-          ∙ ap (reduces_by x.production) (sym w.action.ensures) ∙ sym w.reduces-by.ensures
-          ∙ w.if-not-reduces-by.false
+          ∙ ap (reduces_by x.production) (sym w.action.ensures) ∙ sym w.reduces_by.ensures
+          ∙ w.if-not-reduces_by.false
       | else-item-a-eq1-via-else-item-a-eq1 w ↦
           ap (λ b. implies b red) (bit ∙ ne_eqb _ 1 w.if-item-a-eq1.false)
     ])

@@ -10,7 +10,7 @@ returns-then-p-item g c =
     let t = c.args.table.now in
     let H = g.T.Hinted.hints t in
     let few = (g.T.Hinted.bounded t).look_aheads_fit x.state x.production x.dot in
-    let is = sym c.default-reduction.ensures ∙ c.in-Some.is in
+    let is = sym c.default_reduction.ensures ∙ c.in-Some.is in
     let own = eq-eqb c.in-Some.p x.production c.if-p-item.true in
     own ∙ ap (λ b. b || eqb x.looks 0) (sym own)
     ∙ by_default (g.T.Table.meaning t) x.state c.in-Some.p is H x.production x.looks (looks_of H x)
@@ -22,7 +22,7 @@ returns-else-p-item g c =
     let t = c.args.table.now in
     let H = g.T.Hinted.hints t in
     let few = (g.T.Hinted.bounded t).look_aheads_fit x.state x.production x.dot in
-    let is = sym c.default-reduction.ensures ∙ c.in-Some.is in
+    let is = sym c.default_reduction.ensures ∙ c.in-Some.is in
     let other = ne_eqb c.in-Some.p x.production c.if-p-item.false in
     ap (λ b. b || eqb x.looks 0) (sym other)
     ∙ by_default (g.T.Table.meaning t) x.state c.in-Some.p is H x.production x.looks (looks_of H x)

@@ -11,8 +11,8 @@ use Rattle.completeness.proofs.equations.beginning_of_all.Goals.{then-production
 pub loop-production-init : goal.loop-production-init
 loop-production-init g c = (omega arith, sym (some_start _), λ a. holds_none a ∙ sym (some_start _))
 
-pub overflow-add-p : goal.overflow-add-p
-overflow-add-p g c =
+pub overflow_add-p : goal.overflow_add-p
+overflow_add-p g c =
     let t = c.args.table.now in
     let here = sym c.production.ensures ∙ c.in-Some.is in
     omega (arith, counted (g.T.Table.meaning t) (g.T.Table.lawful t) c.loop-production.p _ here)
@@ -37,7 +37,7 @@ loop-production-preserved g c =
     let inv = c.loop-production.invariant in
     elim c.if-production-n.branch [
       | then-production-n w ↦
-          let right = w.beginning-from-right in
+          let right = w.beginning_from-right in
           let begins = right.ensures in
           let both = holds_either c.loop-production.firsts right.result.firsts _ _ inv.2 begins.firsts in
           let own = w.if-production-n.true in (
@@ -64,7 +64,7 @@ returns g c =
     let M = g.T.Table.meaning t in
     let H = g.T.Hinted.hints t in
     let inv = c.loop-production.invariant in
-    let none = sym c.production.ensures ∙ c.in-default.is in
+    let none = sym c.production.ensures ∙ c.in_default.is in
     let all = all_counted M (g.T.Table.lawful t) c.loop-production.p inv.0 none in
     record {
       firsts = λ a. inv.2 a ∙ ap (λ p. some_below p (of_left M.grammar c.args.n (λ α. first_of H α a))) all;

@@ -11,7 +11,7 @@ advances-requires g c =
     let t = c.args.table.now in
     let found = sym c.in-Some.ensures in
     let few = dot_few (g.T.Table.meaning t) (g.T.Table.lawful t) c.args.p c.args.dot _ found in
-    (c.look-aheads.ensures, few)
+    (c.look_aheads.ensures, few)
 
 pub returns-in-None : goal.returns-in-None
 returns-in-None g c =

@@ -8,5 +8,5 @@ returns g c =
     let x = c.args.item in
     let t = c.args.table.now in
     let few = (g.T.Hinted.bounded t).look_aheads_fit x.state x.production x.dot in
-    subset_is x.looks (looks_of (g.T.Hinted.hints t) x) (omega arith) few c.requires.0 c.next-looks.result _
-    c.next-looks.ensures
+    subset_is x.looks (looks_of (g.T.Hinted.hints t) x) (omega arith) few c.requires.0 c.next_looks.result _
+    c.next_looks.ensures

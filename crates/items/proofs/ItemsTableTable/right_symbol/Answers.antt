@@ -6,5 +6,5 @@ use Rattle.items.specs.Rows.{rules}
 
 pub returns : goal.returns
 returns c =
-    c.cell-or.ensures ∙ ap (λ rows. cell rows None c.args.p c.args.k) c.right-symbols.ensures
+    c.cell_or.ensures ∙ ap (λ rows. cell rows None c.args.p c.args.k) c.right_symbols.ensures
     ∙ right_at 4 rules c.args.p c.args.k

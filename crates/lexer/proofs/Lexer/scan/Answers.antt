@@ -6,32 +6,31 @@ use Rattle.lexer.proofs.Lexer.scan.Goals.{Else-start-self}
 pub returns-then-start-self : goal.returns-then-start-self
 returns-then-start-self c =
     let s = c.args.self.now in
-    let start = c.skip-blanks-start in
+    let start = c.skip_blanks-start in
     record {
       same = end_behind s.plan.now s.at start.result start.ensures.value c.if-start-self.true;
       looked = refl;
     }
 
-inside : (c : goal.Else-start-self) → c.skip-blanks-start.result < length c.args.self.now.plan.now
-inside c = omega (arith, c.skip-blanks-start.ensures.within, c.if-start-self.false)
+inside : (c : goal.Else-start-self) → c.skip_blanks-start.result < length c.args.self.now.plan.now
+inside c = omega (arith, c.skip_blanks-start.ensures.within, c.if-start-self.false)
 
-pub invariant-of-self-in-Ok : goal.invariant-of-self-in-Ok
-invariant-of-self-in-Ok c =
+pub invariant_of-self-in-Ok : goal.invariant_of-self-in-Ok
+invariant_of-self-in-Ok c =
     let s = c.args.self.now in
-    let start = c.skip-blanks-start in
-    let lt = inside (goal.at.invariant-of-self-in-Ok c).Else-start-self in
-    let i = c.in-Ok.ensures in (
-      s.short,
-      (
-        token_fits s.plan.now s.at start.result start.ensures.value lt c.in-Ok.token i,
-        (token_kind s.plan.now s.at start.result start.ensures.value lt c.in-Ok.token i, tt),
-      ),
-    )
+    let start = c.skip_blanks-start in
+    let lt = inside (goal.at.invariant_of-self-in-Ok c).Else-start-self in
+    let i = c.in-Ok.ensures in
+    record {
+      short = s.short;
+      within = token_fits s.plan.now s.at start.result start.ensures.value lt c.in-Ok.token i;
+      kind = token_kind s.plan.now s.at start.result start.ensures.value lt c.in-Ok.token i;
+    }
 
 pub returns-in-Ok : goal.returns-in-Ok
 returns-in-Ok c =
     let s = c.args.self.now in
-    let start = c.skip-blanks-start in
+    let start = c.skip_blanks-start in
     let lt = inside (goal.at.returns-in-Ok c).Else-start-self in
     let i = c.in-Ok.ensures in
     record {
@@ -42,7 +41,7 @@ returns-in-Ok c =
 pub returns-in-Err : goal.returns-in-Err
 returns-in-Err c =
     let s = c.args.self.now in
-    let start = c.skip-blanks-start in
+    let start = c.skip_blanks-start in
     let lt = inside (goal.at.returns-in-Err c).Else-start-self in
     let i = c.in-Err.ensures in
     record {

@@ -5,14 +5,14 @@ use Rattle.lexer.proofs.scan.skip_blanks.Goals as goal
 
 pub loop-start-preserved : goal.loop-start-preserved
 loop-start-preserved c =
-    let blank = sym c.if-is-blank.ensures in
+    let blank = sym c.if-is_blank.ensures in
     let plan = c.args.plan.now in
     let e = ap length (run_more is_blank plan c.loop-start.start c.loop-start-test.true blank) in
     (omega (arith, e, c.loop-start.invariant.0), omega arith)
 
-pub returns-else-is-blank : goal.returns-else-is-blank
-returns-else-is-blank c =
-    let other = sym c.if-is-blank.ensures in
+pub returns-else-is_blank : goal.returns-else-is_blank
+returns-else-is_blank c =
+    let other = sym c.if-is_blank.ensures in
     let plan = c.args.plan.now in
     let e = ap length (run_stops is_blank plan c.loop-start.start c.loop-start-test.true other) in
     record { value = omega (arith, e, c.loop-start.invariant.0); within = c.loop-start.invariant.1 }

@@ -4,20 +4,20 @@ use Rattle.lexing.proofs.Alone.{empty_alone, long_alone, other_alone, word_alone
 use Rattle.lexing.proofs.Distinctness.{words_distinct}
 use Rattle.lexer.proofs.spell.spelling.Goals as goal
 
-pub returns-then-is-empty : goal.returns-then-is-empty
-returns-then-is-empty c = record {
-  value = empty_alone c.args.letters.now (eqb-true _ 0 (sym c.if-is-empty.ensures));
+pub returns-then-is_empty : goal.returns-then-is_empty
+returns-then-is_empty c = record {
+  value = empty_alone c.args.letters.now (eqb-true _ 0 (sym c.if-is_empty.ensures));
   distinct = words_distinct c.args.letters.now;
 }
 
-pub returns-in-default : goal.returns-in-default
-returns-in-default c = record {
-  value = long_alone c.args.letters.now _ c.in-default.ensures;
+pub returns-in_default : goal.returns-in_default
+returns-in_default c = record {
+  value = long_alone c.args.letters.now _ c.in_default.ensures;
   distinct = words_distinct c.args.letters.now;
 }
 
 some : (c : goal.Then-token-letters) → 1 ≤ length c.args.letters.now
-some c = omega (arith, eqb-false _ 0 (sym c.if-is-empty.ensures))
+some c = omega (arith, eqb-false _ 0 (sym c.if-is_empty.ensures))
 
 pub returns-then-token-letters : goal.returns-then-token-letters
 returns-then-token-letters c = record {

@@ -10,21 +10,21 @@ use Rattle.limit.proofs.LimitSource.take.Goals as goal
 abbrev here : given.Over → ℕ
 here g = above g.S.Layered.layer
 
-pub returns-in-err-token : goal.returns-in-err-token
-returns-in-err-token g c =
-    let told = c.in-err-token.ensures in
+pub returns-in_err-token : goal.returns-in_err-token
+returns-in_err-token g c =
+    let told = c.in_err-token.ensures in
     let left = c.args.self.now.left in
-    let out = err_from_is_err_and c.from-residual.result c.from-residual.ensures.1 in
+    let out = err_from_is_err_and c.from_residual.result c.from_residual.ensures.1 in
     record {
       value = out.1 ∙ ap Err out.2 ∙ limited_answer (here g) left _ _ told.value;
       after = ap (limited (here g) left) told.after ∙ limited_stays (here g) left _ _ told.value tt;
     }
 
-pub returns-in-default : goal.returns-in-default
-returns-in-default g c =
-    let told = c.in-ok-token.ensures in
+pub returns-in_default : goal.returns-in_default
+returns-in_default g c =
+    let told = c.in_ok-token.ensures in
     let left = c.args.self.now.left in
-    let none = sym (ap Ok c.in-default.is) ∙ told.value in
+    let none = sym (ap Ok c.in_default.is) ∙ told.value in
     record {
       value = limited_answer (here g) left _ _ none;
       after = ap (limited (here g) left) told.after ∙ limited_stays (here g) left _ _ none tt;
@@ -32,7 +32,7 @@ returns-in-default g c =
 
 pub returns : goal.returns
 returns g c =
-    let told = c.in-ok-token.ensures in
+    let told = c.in_ok-token.ensures in
     let left = c.args.self.now.left in
     record {
       value = limited_some (here g) left _ _ (omega arith) (sym (ap Ok c.in-Some.is) ∙ told.value);

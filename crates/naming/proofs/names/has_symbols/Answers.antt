@@ -10,14 +10,14 @@ use Rattle.naming.proofs.names.has_symbols.Goals as goal
 pub loop-k-init : goal.loop-k-init
 loop-k-init c = below_start _
 
-pub returns-then-not-has-symbol-at : goal.returns-then-not-has-symbol-at
-returns-then-not-has-symbol-at c =
+pub returns-then-not-has_symbol_at : goal.returns-then-not-has_symbol_at
+returns-then-not-has_symbol_at c =
     let n = at c.args.row.bytes 5 in
     sym (each_symbol _ c.args.row.bytes c.requires
-    ∙ below_fails _ n c.loop-k.k (omega arith) (sym c.if-not-has-symbol-at.ensures))
+    ∙ below_fails _ n c.loop-k.k (omega arith) (sym c.if-not-has_symbol_at.ensures))
 
 pub loop-k-preserved : goal.loop-k-preserved
-loop-k-preserved c = below_more _ c.loop-k.k c.loop-k.invariant (sym c.if-not-has-symbol-at.ensures)
+loop-k-preserved c = below_more _ c.loop-k.k c.loop-k.invariant (sym c.if-not-has_symbol_at.ensures)
 
 pub returns : goal.returns
 returns c =

@@ -5,6 +5,6 @@ use Rattle.layout.specs.Opening.{has_symbol}
 use Rattle.records.specs.Parts.{symbol_in}
 use Rattle.naming.proofs.names.has_symbols.Given as given'
 
-abbrev pub invariant_loop_k : given'.invariant_loop_k
-invariant_loop_k l =
+abbrev pub invariant-loop-k : given'.invariant-loop-k
+invariant-loop-k l =
     below l.k (λ k. given true (has_symbol (sheet l.sorted.bytes.now)) (symbol_in l.row.bytes k)) ≡ true

@@ -7,15 +7,15 @@ use Rattle.naming.proofs.sense.check_sense.Goals as goal
 pub loop-i-init : goal.loop-i-init
 loop-i-init c = first_start _
 
-pub overflow-cast-result : goal.overflow-cast-result
-overflow-cast-result c = omega (arith, few_records _ (sorted_of _ c.args.sorted.now.sorted))
+pub overflow_cast-result : goal.overflow_cast-result
+overflow_cast-result c = omega (arith, few_records _ (sorted_of _ c.args.sorted.now.sorted))
 
-pub returns-then-not-has-sense : goal.returns-then-not-has-sense
-returns-then-not-has-sense c =
-    refuses_at _ _ _ _ c.loop-i.invariant (unless_fails _ (sym c.if-not-has-sense.ensures)) (omega arith)
+pub returns-then-not-has_sense : goal.returns-then-not-has_sense
+returns-then-not-has_sense c =
+    refuses_at _ _ _ _ c.loop-i.invariant (unless_fails _ (sym c.if-not-has_sense.ensures)) (omega arith)
 
 pub loop-i-preserved : goal.loop-i-preserved
-loop-i-preserved c = first_more _ _ c.loop-i.invariant (unless_passes _ (sym c.if-not-has-sense.ensures))
+loop-i-preserved c = first_more _ _ c.loop-i.invariant (unless_passes _ (sym c.if-not-has_sense.ensures))
 
 pub returns : goal.returns
 returns c = refuses_nothing _ _ c.loop-i.i c.loop-i.invariant (omega arith)

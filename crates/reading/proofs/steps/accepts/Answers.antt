@@ -10,5 +10,5 @@ returns-else-cells-eq1 g c =
 
 pub returns-then-cells-eq1 : goal.returns-then-cells-eq1
 returns-then-cells-eq1 g c =
-    c.is-entered.ensures
+    c.is_entered.ensures
     ∙ alone (g.T.Table.meaning c.args.table.now) c.args.cells.now c.if-cells-eq1.true c.incoming.ensures

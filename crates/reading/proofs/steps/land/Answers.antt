@@ -11,12 +11,12 @@ returns-then-not-carries g c = record {
   within = tt;
 }
 
-pub returns-in-default-goto : goal.returns-in-default-goto
-returns-in-default-goto g c = record {
+pub returns-in_default-goto : goal.returns-in_default-goto
+returns-in_default-goto g c = record {
   answer =
       landing_is (g.T.Table.meaning c.args.table.now) c.args.production c.args.cells.now c.in-Some.rule
       c.from-count.result true _ _ c.in-Some.ensures c.from-count.ensures c.if-cells-count.false
-      c.if-not-carries.ensures c.last-of.ensures c.in-default-goto.ensures;
+      c.if-not-carries.ensures c.last_of.ensures c.in_default-goto.ensures;
   within = tt;
 }
 
@@ -25,6 +25,6 @@ returns g c = record {
   answer =
       landing_is (g.T.Table.meaning c.args.table.now) c.args.production c.args.cells.now c.in-Some.rule
       c.from-count.result true _ _ c.in-Some.ensures c.from-count.ensures c.if-cells-count.false
-      c.if-not-carries.ensures c.last-of.ensures c.in-Some-goto.ensures;
+      c.if-not-carries.ensures c.last_of.ensures c.in-Some-goto.ensures;
   within = omega (arith, c.from-count.ensures, c.if-cells-count.false);
 }

@@ -6,8 +6,8 @@ use Rattle.records.proofs.Record.all_symbols.Goals as goal
 pub loop-k-init : goal.loop-k-init
 loop-k-init c = below_start _
 
-pub returns-then-not-is-symbol : goal.returns-then-not-is-symbol
-returns-then-not-is-symbol c = sym (below_fails _ _ c.loop-k.k (omega arith) (grind (arith, nat_tests)))
+pub returns-then-not-is_symbol : goal.returns-then-not-is_symbol
+returns-then-not-is_symbol c = sym (below_fails _ _ c.loop-k.k (omega arith) (grind (arith, nat_tests)))
 
 pub loop-k-preserved : goal.loop-k-preserved
 loop-k-preserved c = below_more _ c.loop-k.k c.loop-k.invariant (grind (arith, nat_tests))

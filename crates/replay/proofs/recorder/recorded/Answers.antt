@@ -17,8 +17,8 @@ returns c =
     let left = ap (λ (r : Recorder). r.sink.left) made in
     let bytes = ap (λ (r : Recorder). r.sink.below.bytes.now) made in
     let first = at_first c.new-recorder.result.sink.left start none ∙ (λ i. blank (left i) (bytes i)) in
-    let sent = c.send-all-answer.ensures.sent ∙ ap (sent_all postfix es) first in
-    let laid = c.finish.ensures.records start none c.send-all-answer.ensures.memory in
+    let sent = c.send_all-answer.ensures.sent ∙ ap (sent_all postfix es) first in
+    let laid = c.finish.ensures.records start none c.send_all-answer.ensures.memory in
     let list = (λ i. joined (sent i).1.list) ∙ all_records es (blank c.args.limit bs) in
     record {
       answer = λ i. (sent i).0;

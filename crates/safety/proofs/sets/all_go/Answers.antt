@@ -8,14 +8,14 @@ use Rattle.safety.proofs.sets.all_go.Goals as goal
 pub loop-rest-init : goal.loop-rest-init
 loop-rest-init g c = (omega arith, below_start _, omega arith)
 
-pub returns-then-is-none : goal.returns-then-is-none
-returns-then-is-none g c =
+pub returns-then-is_none : goal.returns-then-is_none
+returns-then-is_none g c =
     let M = g.T.Table.meaning c.args.table.now in
     let H = g.T.Hinted.hints c.args.table.now in
     let set = c.args.set in
     let at = found set _ c.loop-rest.s (omega arith) c.loop-rest.invariant.2 c.loop-rest-test.true in
     let test = goes_is M H set c.args.n _ c.goto.result at.is_member c.goto.ensures in
-    sym (below_fails (goes M H set c.args.n) narrow _ at.within (test ∙ c.if-is-none.ensures))
+    sym (below_fails (goes M H set c.args.n) narrow _ at.within (test ∙ c.if-is_none.ensures))
 
 pub loop-rest-preserved : goal.loop-rest-preserved
 loop-rest-preserved g c =
@@ -29,7 +29,7 @@ loop-rest-preserved g c =
     let so_far = skip M H set n c.loop-rest.s _ tested at.skipped in
     let next = shifted_on set _ c.loop-rest.s (omega arith) left c.loop-rest-test.true in (
       omega (arith, at.within),
-      below_more (goes M H set n) _ so_far (test ∙ c.if-is-none.ensures),
+      below_more (goes M H set n) _ so_far (test ∙ c.if-is_none.ensures),
       c.above-rest.ensures ∙ next,
     )
 

@@ -3,7 +3,7 @@ use Rattle.safety.proofs.OnTop.{trail_below, trail_last, trail_beyond}
 use Rattle.safety.proofs.symbols.trail_symbol.Goals as goal
 
 pub returns-then-k-past : goal.returns-then-k-past
-returns-then-k-past g c = c.past-symbol.ensures ∙ trail_below _ _ c.args.k (omega arith)
+returns-then-k-past g c = c.past_symbol.ensures ∙ trail_below _ _ c.args.k (omega arith)
 
 pub returns-then-k-past-2 : goal.returns-then-k-past-2
 returns-then-k-past-2 g c = c.incoming.ensures ∙ trail_last _ _ c.args.k (omega arith)

@@ -4,4 +4,4 @@ use Rattle.sorted.proofs.bytes.key_at.Goals as goal
 
 pub returns : goal.returns
 unfolding key
-returns c = c.key-of.ensures ∙ ap key c.row-of-row.ensures.value
+returns c = c.key_of.ensures ∙ ap key c.row_of-row.ensures.value

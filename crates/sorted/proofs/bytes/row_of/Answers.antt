@@ -2,21 +2,21 @@ use Rattle.std.proofs.Common.{◌≡◌, ◌+◌, ◌-◌, ◌*◌, take, drop, 
 use Rattle.layout.specs.Records.{count, record_at}
 use Rattle.sorted.proofs.bytes.row_of.Goals as goal
 
-pub overflow-mul-result : goal.overflow-mul-result
+pub overflow_mul-result : goal.overflow_mul-result
 unfolding count
-overflow-mul-result c = search rules
+overflow_mul-result c = search rules
 
-pub overflow-mul-result-2 : goal.overflow-mul-result-2
+pub overflow_mul-result-2 : goal.overflow_mul-result-2
 unfolding count
-overflow-mul-result-2 c = search rules
+overflow_mul-result-2 c = search rules
 
-pub overflow-add-result : goal.overflow-add-result
+pub overflow_add-result : goal.overflow_add-result
 unfolding count
-overflow-add-result c = search rules
+overflow_add-result c = search rules
 
-pub slice-bounds-result-end : goal.slice-bounds-result-end
+pub slice_bounds-result-end : goal.slice_bounds-result-end
 unfolding count
-slice-bounds-result-end c = search rules
+slice_bounds-result-end c = search rules
 
 pub returns : goal.returns
 unfolding count record_at

@@ -4,8 +4,8 @@ use Rattle.wellformed.proofs.Seeks.{Between, position_is}
 use Rattle.wellformed.proofs.Formed.{few_records}
 use Rattle.sorted.proofs.lookup.seek.Goals as goal
 
-pub overflow-add-mid : goal.overflow-add-mid
-overflow-add-mid c = omega (arith, few_records _ c.requires.0, c.loop-low.invariant.within)
+pub overflow_add-mid : goal.overflow_add-mid
+overflow_add-mid c = omega (arith, few_records _ c.requires.0, c.loop-low.invariant.within)
 
 pub returns : goal.returns
 returns c =

@@ -14,31 +14,31 @@ fits r = in_range sixteen r.bytes
 pub loop-i-init : goal.loop-i-init
 loop-i-init c = first_start _
 
-pub overflow-cast-result : goal.overflow-cast-result
+pub overflow_cast-result : goal.overflow_cast-result
 unfolding count
-overflow-cast-result c = omega arith
+overflow_cast-result c = omega arith
 
-pub returns-then-not-in-order : goal.returns-then-not-in-order
-returns-then-not-in-order c =
-    let unordered = some_or _ _ _ (unless_fails _ (sym c.if-not-in-order.ensures)) in
+pub returns-then-not-in_order : goal.returns-then-not-in_order
+returns-then-not-in_order c =
+    let unordered = some_or _ _ _ (unless_fails _ (sym c.if-not-in_order.ensures)) in
     refuses_at _ _ _ _ c.loop-i.invariant unordered (omega arith)
 
-pub overflow-cast-result-then-not-in-range : goal.overflow-cast-result-then-not-in-range
+pub overflow_cast-result-then-not-in_range : goal.overflow_cast-result-then-not-in_range
 unfolding count
-overflow-cast-result-then-not-in-range c = omega arith
+overflow_cast-result-then-not-in_range c = omega arith
 
-pub returns-then-not-in-range : goal.returns-then-not-in-range
-returns-then-not-in-range c =
-    let range = c.if-not-in-range.ensures ∙ ap fits c.record-of.ensures in
+pub returns-then-not-in_range : goal.returns-then-not-in_range
+returns-then-not-in_range c =
+    let range = c.if-not-in_range.ensures ∙ ap fits c.record_of.ensures in
     refuses_at _ _ _ _ c.loop-i.invariant
-    (none_or _ _ (unless_passes _ (sym c.if-not-in-order.ensures)) ∙ unless_fails _ (sym range))
+    (none_or _ _ (unless_passes _ (sym c.if-not-in_order.ensures)) ∙ unless_fails _ (sym range))
     (omega arith)
 
 pub loop-i-preserved : goal.loop-i-preserved
 loop-i-preserved c =
-    let range = c.if-not-in-range.ensures ∙ ap fits c.record-of.ensures in
+    let range = c.if-not-in_range.ensures ∙ ap fits c.record_of.ensures in
     first_more _ _ c.loop-i.invariant
-    (none_or _ _ (unless_passes _ (sym c.if-not-in-order.ensures)) ∙ unless_passes _ (sym range))
+    (none_or _ _ (unless_passes _ (sym c.if-not-in_order.ensures)) ∙ unless_passes _ (sym range))
 
 pub returns : goal.returns
 returns c = refuses_nothing _ _ c.loop-i.i c.loop-i.invariant (omega arith)

@@ -1,5 +1,5 @@
 use Rattle.wellformed.proofs.Formed.{sorted_none}
 use Rattle.sorted.proofs.sorting.sorted_sheet.Goals as goal
 
-pub invariant-of-result : goal.invariant-of-result
-invariant-of-result c = (sorted_none _ c.requires, (c.starts.ensures, tt))
+pub invariant_of-result : goal.invariant_of-result
+invariant_of-result c = record { sorted = sorted_none _ c.requires; located = c.starts.ensures }

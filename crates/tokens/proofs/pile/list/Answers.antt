@@ -9,6 +9,6 @@ loop-token-preserved g c =
     let told = c.in-Ok-Some.ensures in
     let taken : Ok (Some c.in-Ok-Some.token) ≡ answer s = cc in
     let more = listed_more s c.in-Ok-Some.token _ _ taken c.loop-token.invariant.0 in (
-      ap₂ (λ before to_come. before ++ to_come.tokens) c.in-ok-push.ensures.items told.after ∙ more,
+      ap₂ (λ before to_come. before ++ to_come.tokens) c.in_ok-push-in-Ok-Some.ensures.items told.after ∙ more,
       ap (λ m. m.ending) told.after ∙ c.loop-token.invariant.1,
     )

@@ -12,12 +12,12 @@ returns c =
     let r = c.args.event in
     let sixteen : length r ≡ 16 = search rules in
     let b : Trace = record {
-      bytes = at_last a.bytes c.write-record.new.bytes;
+      bytes = at_last a.bytes c.write_record.new.bytes;
       records = c.written-records.result + 1;
       trees = c.listed-trees.result - k + 1;
     } in
     let place = c.written-records.ensures in
-    let bytes = c.write-record.ensures ∙ ap (λ n. paste a.bytes.now (16 * n) r 16) place in
+    let bytes = c.write_record.ensures ∙ ap (λ n. paste a.bytes.now (16 * n) r 16) place in
     let records = ap (λ n. n + 1) place in
     let trees = ap (λ n. n - k + 1) c.listed-trees.ensures.bound in
     record {

@@ -13,10 +13,10 @@ returns c =
     let a = c.args.self.now in
     let room : full 0 (meaning a) ≡ false = grind (arith, nat_tests) in
     let t = c.args.token in
-    let alone = ap (λ l. joined l ++ c.leaf-record.result) (drop_all _ (meaning a).list (omega arith)) in
+    let alone = ap (λ l. joined l ++ c.leaf_record.result) (drop_all _ (meaning a).list (omega arith)) in
     record {
       answer = leaf_ok postfix (meaning a) t room;
-      after = leaf_done postfix (meaning a) t room (alone ∙ c.leaf-record.ensures) c.append.ensures.after;
+      after = leaf_done postfix (meaning a) t room (alone ∙ c.leaf_record.ensures) c.append.ensures.after;
       memory = c.append.ensures.memory;
       refused = λ e. absurd (false≢true e);
     }

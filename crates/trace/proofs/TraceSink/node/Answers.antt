@@ -16,7 +16,7 @@ returns c =
     let room : full k (meaning a) ≡ false = grind (arith, nat_tests) in
     let enough : k ≤ length ts = omega arith in
     let count : length (back k ts) ≡ k = omega (arith, length-drop (length ts - k) ts) in
-    let piece = ap (λ r. joined (back k ts) ++ r) (c.node-record.ensures ∙ ap (node_record p) (sym count)) in
+    let piece = ap (λ r. joined (back k ts) ++ r) (c.node_record.ensures ∙ ap (node_record p) (sym count)) in
     record {
       answer = node_ok postfix (meaning a) p k enough room;
       after = node_done postfix (meaning a) p k enough room piece c.append.ensures.after;

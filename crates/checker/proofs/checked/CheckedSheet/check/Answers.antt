@@ -23,12 +23,12 @@ Complete bs = Ok tt ≡ answered (incomplete_found (sheet bs))
 abbrev CompleteFails : Refusal → List ℕ → Type 0
 CompleteFails x bs = Err x ≡ answered (incomplete_found (sheet bs))
 
-pub returns-in-err-open : goal.returns-in-err-open
-returns-in-err-open c =
-    let p = err_from_is_err_and c.from-residual.result c.from-residual.ensures.1 in
+pub returns-in_err-open : goal.returns-in_err-open
+returns-in_err-open c =
+    let p = err_from_is_err_and c.from_residual.result c.from_residual.ensures.1 in
     let old = contents c.args.place.now in
-    let told : c.from-residual.result ≡ answered (verdict (sheet c.args.bytes.now)) =
-    rw (p.1, p.2) (opening_answer _ c.in-err-open.ensures.answer)
+    let told : c.from_residual.result ≡ answered (verdict (sheet c.args.bytes.now)) =
+    rw (p.1, p.2) (opening_answer _ c.in_err-open.ensures.answer)
     in
     record {
       answer = told;
@@ -37,15 +37,15 @@ returns-in-err-open c =
       told = told_answer _ _ told;
     }
 
-pub returns-in-err-check-safety : goal.returns-in-err-check-safety
-returns-in-err-check-safety c =
-    let left = c.from-residual-in-err-check-safety in
+pub returns-in_err-check_safety : goal.returns-in_err-check_safety
+returns-in_err-check_safety c =
+    let left = c.from_residual-in_err-check_safety in
     let p = err_from_is_err_and left.result left.ensures.1 in
     let old = contents c.args.place.now in
-    let same = c.in-ok-open.ensures.place in
-    let fails = subst (SafeFails _) same c.in-err-check-safety.ensures in
+    let same = c.in_ok-open.ensures.place in
+    let fails = subst (SafeFails _) same c.in_err-check_safety.ensures in
     let told : left.result ≡ answered (verdict (sheet c.args.bytes.now)) =
-    rw (p.1, p.2) (unsafe_answer _ c.in-ok-open.ensures.answer fails)
+    rw (p.1, p.2) (unsafe_answer _ c.in_ok-open.ensures.answer fails)
     in
     record {
       answer = told;
@@ -54,16 +54,16 @@ returns-in-err-check-safety c =
       told = told_answer _ _ told;
     }
 
-pub returns-in-err-check-completeness : goal.returns-in-err-check-completeness
-returns-in-err-check-completeness c =
-    let left = c.from-residual-in-err-check-completeness in
+pub returns-in_err-check_completeness : goal.returns-in_err-check_completeness
+returns-in_err-check_completeness c =
+    let left = c.from_residual-in_err-check_completeness in
     let p = err_from_is_err_and left.result left.ensures.1 in
     let old = contents c.args.place.now in
-    let same = c.in-ok-open.ensures.place in
-    let safe = subst Safe same c.in-ok-check-safety.ensures in
-    let fails = subst (CompleteFails _) same c.in-err-check-completeness.ensures in
+    let same = c.in_ok-open.ensures.place in
+    let safe = subst Safe same c.in_ok-check_safety.ensures in
+    let fails = subst (CompleteFails _) same c.in_err-check_completeness.ensures in
     let told : left.result ≡ answered (verdict (sheet c.args.bytes.now)) =
-    rw (p.1, p.2) (incomplete_answer _ c.in-ok-open.ensures.answer safe fails)
+    rw (p.1, p.2) (incomplete_answer _ c.in_ok-open.ensures.answer safe fails)
     in
     record {
       answer = told;
@@ -72,18 +72,18 @@ returns-in-err-check-completeness c =
       told = told_answer _ _ told;
     }
 
-pub invariant-of-place : goal.invariant-of-place
-invariant-of-place c =
-    let same = c.in-ok-open.ensures.place in
-    let safe = subst Safe same c.in-ok-check-safety.ensures in
-    let complete = subst Complete same c.in-ok-check-completeness.ensures in
-    let told = incomplete_answer (sheet c.args.bytes.now) c.in-ok-open.ensures.answer safe complete in
+pub invariant_of-place : goal.invariant_of-place
+invariant_of-place c =
+    let same = c.in_ok-open.ensures.place in
+    let safe = subst Safe same c.in_ok-check_safety.ensures in
+    let complete = subst Complete same c.in_ok-check_completeness.ensures in
+    let told = incomplete_answer (sheet c.args.bytes.now) c.in_ok-open.ensures.answer safe complete in
     (subst (λ (bs : List ℕ). is_some (verdict (sheet bs)) ≡ false) (sym same) (none_refused _ told), tt)
 
 pub returns : goal.returns
 returns c =
-    let same = c.in-ok-open.ensures.place in
-    let safe = subst Safe same c.in-ok-check-safety.ensures in
-    let complete = subst Complete same c.in-ok-check-completeness.ensures in
-    let told = incomplete_answer (sheet c.args.bytes.now) c.in-ok-open.ensures.answer safe complete in
+    let same = c.in_ok-open.ensures.place in
+    let safe = subst Safe same c.in_ok-check_safety.ensures in
+    let complete = subst Complete same c.in_ok-check_completeness.ensures in
+    let told = incomplete_answer (sheet c.args.bytes.now) c.in_ok-open.ensures.answer safe complete in
     record { answer = told; place = same; exact = exact_answer _ _ told; told = told_answer _ _ told }

@@ -4,6 +4,6 @@ use Rattle.layout.specs.Checking.{verdict}
 use Rattle.exactness.proofs.Practice.{practice_passes}
 use Rattle.checker.proofs.checked.CheckedSheet.practice.Goals as goal
 
-pub invariant-of-result : goal.invariant-of-result
-invariant-of-result c =
+pub invariant_of-result : goal.invariant_of-result
+invariant_of-result c =
     (subst (λ (bs : List ℕ). is_some (verdict (sheet bs)) ≡ false) (sym c.practice.ensures) practice_passes, tt)

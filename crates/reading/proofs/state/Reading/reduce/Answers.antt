@@ -12,7 +12,7 @@ pub returns-then-under-eq-CELLS : goal.returns-then-under-eq-CELLS
 returns-then-under-eq-CELLS g c =
     let r = c.args.self.now in
     let e = reads g.T.Table g.S.Source g.K.Sink r in
-    let l = c.in-ok-landing.landing in
+    let l = c.in_ok-landing.landing in
     let within : r.used ≤ length r.cells = omega (arith, r.fits, r.size) in
     let under = front_under r.cells r.used l.to c.from.ensures within in
     let long = ap length under in
@@ -24,37 +24,37 @@ returns-then-under-eq-CELLS g c =
           no_cell e (reduced g.K.Sink.algebra c.args.production e l) (node_answer l.children e.stack)
           (omega (arith, long, count, c.if-under-eq-CELLS.true))
           ∙ landing_on g.K.Sink.algebra c.args.production e (e.table.grammar c.args.production) l
-          c.in-ok-landing.ensures.answer;
+          c.in_ok-landing.ensures.answer;
     }
 
-pub returns-in-err-node : goal.returns-in-err-node
-returns-in-err-node g c =
+pub returns-in_err-node : goal.returns-in_err-node
+returns-in_err-node g c =
     let r = c.args.self.now in
     let e = reads g.T.Table g.S.Source g.K.Sink r in
-    let l = c.in-ok-landing.landing in
+    let l = c.in_ok-landing.landing in
     let within : r.used ≤ length r.cells = omega (arith, r.fits, r.size) in
     let under = front_under r.cells r.used l.to c.from.ensures within in
     let long = ap length under in
     let count = pushed_length r.cells (r.used - c.from.result) l.to (omega arith) in
-    let was = c.in-err-node.was in
-    let told = err_from_is_err_and c.from-residual-in-err-node.result c.from-residual-in-err-node.ensures.1 in
+    let was = c.in_err-node.was in
+    let told = err_from_is_err_and c.from_residual-in_err-node.result c.from_residual-in_err-node.ensures.1 in
     record {
       near = stays g.K.Sink r _ refl c.node.ensures.memory refl;
       phase = refl;
       after =
-          halted_so e (Sink c.in-err-node.field-0.0) (told.1 ∙ ap Err told.2)
+          halted_so e (Sink c.in_err-node.field-0.0) (told.1 ∙ ap Err told.2)
           (ap g.K.Sink.meaning (c.node.ensures.refused (ap is_err was))) refl
           ∙ refused e (reduced g.K.Sink.algebra c.args.production e l) (node_answer l.children e.stack)
           (omega (arith, long, count, c.if-under-eq-CELLS.false, r.fits)) (sym c.node.ensures.answer ∙ was)
           ∙ landing_on g.K.Sink.algebra c.args.production e (e.table.grammar c.args.production) l
-          c.in-ok-landing.ensures.answer;
+          c.in_ok-landing.ensures.answer;
     }
 
 pub returns : goal.returns
 returns g c =
     let r = c.args.self.now in
     let e = reads g.T.Table g.S.Source g.K.Sink r in
-    let l = c.in-ok-landing.landing in
+    let l = c.in_ok-landing.landing in
     let within : r.used ≤ length r.cells = omega (arith, r.fits, r.size) in
     let under = front_under r.cells r.used l.to c.from.ensures within in
     let long = ap length under in
@@ -67,7 +67,7 @@ returns g c =
           c.node.ensures.after refl
           ∙ taken e (reduced g.K.Sink.algebra c.args.production e l) (node_answer l.children e.stack)
           (omega (arith, long, count, c.if-under-eq-CELLS.false, r.fits))
-          (sym c.node.ensures.answer ∙ c.in-ok-node.was)
+          (sym c.node.ensures.answer ∙ c.in_ok-node.was)
           ∙ landing_on g.K.Sink.algebra c.args.production e (e.table.grammar c.args.production) l
-          c.in-ok-landing.ensures.answer;
+          c.in_ok-landing.ensures.answer;
     }

@@ -24,18 +24,18 @@ returns-then-self-eq-CELLS g c =
           ∙ sym (ap (λ o. shifting g.K.Sink.algebra c.args.to e (listed o)) c.in-Some.is);
     }
 
-pub returns-in-err-leaf : goal.returns-in-err-leaf
-returns-in-err-leaf g c =
+pub returns-in_err-leaf : goal.returns-in_err-leaf
+returns-in_err-leaf g c =
     let r = c.args.self.now in
     let e = reads g.T.Table g.S.Source g.K.Sink r in
     let long = pushed_length r.cells r.used c.args.to (omega (arith, r.fits, r.size)) in
-    let was = c.in-err-leaf.was in
-    let told = err_from_is_err_and c.from-residual.result c.from-residual.ensures.1 in
+    let was = c.in_err-leaf.was in
+    let told = err_from_is_err_and c.from_residual.result c.from_residual.ensures.1 in
     record {
       near = stays g.K.Sink r _ refl c.leaf.ensures.memory refl;
       phase = refl;
       after =
-          halted_so e (Sink c.in-err-leaf.field-0.0) (told.1 ∙ ap Err told.2)
+          halted_so e (Sink c.in_err-leaf.field-0.0) (told.1 ∙ ap Err told.2)
           (ap g.K.Sink.meaning (c.leaf.ensures.refused (ap is_err was))) refl
           ∙ refused e _ (leaf_answer e.stack) (omega (arith, long, c.if-self-eq-CELLS.false, r.fits))
           (sym c.leaf.ensures.answer ∙ was)
@@ -54,6 +54,6 @@ returns g c =
           stepped_so g.T.Table g.S.Source g.K.Sink r _ _ c.push.ensures refl refl c.requires.running refl
           c.leaf.ensures.after c.take.ensures.after
           ∙ taken e _ (leaf_answer e.stack) (omega (arith, long, c.if-self-eq-CELLS.false, r.fits))
-          (sym c.leaf.ensures.answer ∙ c.in-ok-leaf.was)
+          (sym c.leaf.ensures.answer ∙ c.in_ok-leaf.was)
           ∙ sym (ap (λ o. shifting g.K.Sink.algebra c.args.to e (listed o)) c.in-Some.is);
     }

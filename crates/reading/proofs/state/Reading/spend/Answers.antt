@@ -12,11 +12,11 @@ returns-in-Err g c =
       after = sym (ap (λ y. noted y new) c.in-Err.is) ∙ c.advance.ensures.after;
     }
 
-pub returns-in-default : goal.returns-in-default
-returns-in-default g c =
+pub returns-in_default : goal.returns-in_default
+returns-in_default g c =
     let new = reads g.T.Table g.S.Source g.K.Sink c.advance.new.self in
     record {
       table = c.advance.ensures.table;
       memory = c.advance.ensures.memory;
-      after = sym (ap (λ y. noted y new) c.in-default.is) ∙ c.advance.ensures.after;
+      after = sym (ap (λ y. noted y new) c.in_default.is) ∙ c.advance.ensures.after;
     }

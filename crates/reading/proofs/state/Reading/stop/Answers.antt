@@ -19,7 +19,7 @@ pub returns : goal.returns
 returns g c =
     let r = c.args.self.now in
     let e = reads g.T.Table g.S.Source g.K.Sink r in
-    let taken = stop_taken e (has_not_ended c.in-default.is) in
+    let taken = stop_taken e (has_not_ended c.in_default.is) in
     record {
       answer = sym (ap (λ d. or_declined d tt) taken);
       made = made g.T.Table g.S.Source g.K.Sink Stop r _ taken refl refl (g.K.Sink.still r.sink);

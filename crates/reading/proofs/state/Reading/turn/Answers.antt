@@ -24,7 +24,7 @@ returns-then-self-from g c =
     let e = reads g.T.Table g.S.Source g.K.Sink r in
     let n = c.args.n in
     let more : most_steps < r.steps + n = omega (arith, c.from.ensures, c.if-self-from.true) in
-    let over = turn_excess e (has_not_ended c.in-default.is) n (lt-leb (r.steps + n) most_steps more) in
+    let over = turn_excess e (has_not_ended c.in_default.is) n (lt-leb (r.steps + n) most_steps more) in
     record {
       answer = sym (ap (λ d. or_declined d (called g.K.Sink.algebra (Turn n) e).outcome) over);
       made = declined_so g.T.Table g.S.Source g.K.Sink (Turn n) r _ over;
@@ -36,7 +36,7 @@ returns g c =
     let e = reads g.T.Table g.S.Source g.K.Sink r in
     let n = c.args.n in
     let few : r.steps + n ≤ most_steps = omega (arith, c.from.ensures, c.if-self-from.false) in
-    let on = has_not_ended c.in-default.is in
+    let on = has_not_ended c.in_default.is in
     let taken = turn_taken e on n (le-leb (r.steps + n) most_steps few) in
     let after = c.spend.ensures.after ∙ ap (λ b. go_on g.K.Sink.algebra b (λ s. spend g.K.Sink.algebra n s) e) on in
     let all = made g.T.Table g.S.Source g.K.Sink (Turn n) r _ taken after c.spend.ensures.table c.spend.ensures.memory in

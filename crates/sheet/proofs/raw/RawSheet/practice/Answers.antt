@@ -10,6 +10,6 @@ opens : is_some (opening (sheet practice_bytes)) ≡ false
 unfolding opening first below some_below every gather count record_at key payload member placed
 opens = refl
 
-pub invariant-of-result : goal.invariant-of-result
-invariant-of-result c =
-    (subst (λ (bs : List ℕ). is_some (opening (sheet bs)) ≡ false) (sym c.practice.ensures) opens, tt)
+pub invariant_of-result : goal.invariant_of-result
+invariant_of-result c =
+    record { opens = subst (λ (bs : List ℕ). is_some (opening (sheet bs)) ≡ false) (sym c.practice.ensures) opens }

@@ -5,6 +5,6 @@ use Rattle.layout.specs.Opening.{sorting}
 use Rattle.wellformed.proofs.Formed.{sorts_exactly_sorted}
 use Rattle.sorted.proofs.held.SortedSheet.practice.Goals as goal
 
-pub sorted-sheet-requires : goal.sorted-sheet-requires
+pub sorted_sheet-requires : goal.sorted_sheet-requires
 unfolding sorting first below count record_at key payload
-sorted-sheet-requires c = (sorts_exactly_sorted _).0 refl
+sorted_sheet-requires c = (sorts_exactly_sorted _).0 refl
