@@ -11,8 +11,8 @@ loop-call-init g c =
 pub loop-call-preserved : goal.loop-call-preserved
 loop-call-preserved g c =
     goes_on g.T.Table g.S.Source g.K.Sink c.new-reading.result c.args.calls.now c.loop-call.call-index
-    (Turn 0) c.loop-call.reading c.make-checked.new.reading c.loop-call-test.true c.loop-call.invariant
-    c.make-checked.ensures
+    (Turn 0) c.loop-call.reading c.make_checked.new.reading c.loop-call-test.true c.loop-call.invariant
+    c.make_checked.ensures
 
 pub returns : goal.returns
 returns g c = record {

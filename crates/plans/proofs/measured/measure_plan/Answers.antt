@@ -7,7 +7,7 @@ use Rattle.plans.proofs.measured.measure_plan.Goals as goal
 pub returns : goal.returns
 returns g c =
     let laws = g.met.M.Measure in
-    let read = c.read-plan-read in
+    let read = c.read_plan-read in
     let made = c.new.ensures in
     let back = c.finish.ensures in
     record {

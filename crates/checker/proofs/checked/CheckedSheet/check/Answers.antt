@@ -78,7 +78,7 @@ invariant_of-place c =
     let safe = subst Safe same c.in_ok-check_safety.ensures in
     let complete = subst Complete same c.in_ok-check_completeness.ensures in
     let told = incomplete_answer (sheet c.args.bytes.now) c.in_ok-open.ensures.answer safe complete in
-    (subst (λ (bs : List ℕ). is_some (verdict (sheet bs)) ≡ false) (sym same) (none_refused _ told), tt)
+    record { checked = subst (λ (bs : List ℕ). is_some (verdict (sheet bs)) ≡ false) (sym same) (none_refused _ told) }
 
 pub returns : goal.returns
 returns c =

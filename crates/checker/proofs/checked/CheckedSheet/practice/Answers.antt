@@ -6,4 +6,4 @@ use Rattle.checker.proofs.checked.CheckedSheet.practice.Goals as goal
 
 pub invariant_of-result : goal.invariant_of-result
 invariant_of-result c =
-    (subst (λ (bs : List ℕ). is_some (verdict (sheet bs)) ≡ false) (sym c.practice.ensures) practice_passes, tt)
+    record { checked = subst (λ (bs : List ℕ). is_some (verdict (sheet bs)) ≡ false) (sym c.practice.ensures) practice_passes }
