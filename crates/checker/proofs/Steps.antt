@@ -2,15 +2,19 @@
 use Rattle.std.proofs.Common.{◌≡◌, ℕ, ◌<◌, ◌≤◌, Bool, true, false, cond, ltb, List, is_some, Some, None, Option, sym, refl, ap, ◌∙◌}
 use Rattle.std.proofs.lemmas.Bool.{lt-ltb, le-ltb}
 use Rattle.records.specs.declared.Record.{Record}
+use Rattle.layout.specs.declared.Letter.TheVariants.{I, N}
 use Rattle.layout.specs.declared.Refusal.{Refusal}
 use Rattle.layout.specs.declared.Refusal.TheVariants.{Unsafe, Incomplete}
-use Rattle.layout.specs.Choices.{unless}
-use Rattle.layout.specs.Records.{Sheet, sheet, count, record_at}
+use Rattle.layout.specs.Choices.{given, unless}
+use Rattle.layout.specs.Records.{Sheet, sheet, count, record_at, at, letter}
 use Rattle.layout.specs.Meaning.{automaton, hints}
 use Rattle.layout.specs.Opening.{by_letter, opening}
-use Rattle.layout.specs.CompletenessTests.{initial_item}
-use Rattle.layout.specs.Checking.{safe_as, complete_as, unsafe_refused, incomplete_refused}
+use Rattle.layout.specs.Checking as by_record
+use Rattle.layout.specs.CompletenessTests.{equations_hold, item_at}
+use Rattle.layout.specs.Checking.{initial_item, safe_as, complete_as, unsafe_refused, incomplete_refused}
+use Rattle.wellformed.specs.Formed.{Formed}
 use Rattle.wellformed.proofs.Formed.{formed_of, few_records}
+use Rattle.exactness.proofs.Agree.{equations_same, item_same}
 use Rattle.sorted.specs.Found.{by_place}
 use Rattle.sorted.proofs.Finds.{place_some, place_none}
 
@@ -29,7 +33,7 @@ module _ (sh : Sheet) where
   -- the last pass at a place, where this says whether the place is that of a record
   abbrev last : ℕ → Bool → Option Refusal
   last i t =
-      unless (cond t (by_letter (record_at sh i) (complete_as sh (record_at sh i))) (initial_item (automaton sh) (hints sh)))
+      unless (cond t (by_letter (record_at sh i) (complete_as sh (record_at sh i))) (initial_item sh))
       (Incomplete i)
 
   module _ (i : ℕ) (r : Record) (e : Some r ≡ by_place sh i) (b : Bool) where
@@ -43,7 +47,30 @@ module _ (sh : Sheet) where
         ap (last i) (lt-ltb i (count sh) lt) ∙ ap (λ t. unless t (Incomplete i)) (sym (h ∙ ap complete is))
 
   -- behind the last record, the initial item
-  pub initial_here : (i : ℕ) → None ≡ by_place sh i → (b : Bool) → b ≡ initial_item (automaton sh) (hints sh) →
+  pub initial_here : (i : ℕ) → None ≡ by_place sh i → (b : Bool) → b ≡ initial_item sh →
       incomplete_refused sh i ≡ unless b (Incomplete i)
   initial_here i e b h =
       ap (last i) (le-ltb i (count sh) (place_none sh i e)) ∙ ap (λ t. unless t (Incomplete i)) (sym h)
+
+-- WHAT THE TABLE'S TESTS SAY OF A RECORD
+
+module _ (sh : Sheet) (w : Formed sh) (r : List ℕ) (b : Bool) where
+  -- of an item
+  pub item_judged : letter r ≡ Some I → (s p d : ℕ) → s ≡ at r 1 → p ≡ at r 2 → d ≡ at r 3 →
+      b ≡ item_at (automaton sh) (hints sh) s p d → b ≡ by_letter r (complete_as sh r)
+  item_judged is s p d first second third h =
+      h
+      ∙ sym (item_same sh w s p d)
+      ∙ ap (λ k. by_record.item_at sh k p d) first
+      ∙ ap (λ k. by_record.item_at sh (at r 1) k d) second
+      ∙ ap (λ k. by_record.item_at sh (at r 1) (at r 2) k) third
+      ∙ sym (ap (given false (complete_as sh r)) is)
+
+  -- of a nonterminal
+  pub nonterminal_judged : letter r ≡ Some N → (n : ℕ) → n ≡ at r 1 →
+      b ≡ equations_hold (automaton sh) (hints sh) n → b ≡ by_letter r (complete_as sh r)
+  nonterminal_judged is n first h =
+      h
+      ∙ sym (equations_same sh w n)
+      ∙ ap (by_record.equations_hold sh) first
+      ∙ sym (ap (given false (complete_as sh r)) is)

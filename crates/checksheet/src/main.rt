@@ -1,4 +1,6 @@
 //! Tells of each file whether it is a well-formed sheet, and what is refused of one that is not.
+#![tactic(auto)]
+
 ghost use Rattle.std.specs.Prelude.{◌≡◌};
 ghost use Rattle.checksheet.specs.Judged.{judged};
 

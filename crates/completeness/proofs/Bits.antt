@@ -8,8 +8,8 @@ use Rattle.syntax.specs.Grammar.{terminals}
 use Rattle.table.specs.Lawful.{narrow}
 use Rattle.table.specs.Hints.{Set, ◌∈◌}
 use Rattle.layout.specs.Choices.{implies, below}
-use Rattle.layout.specs.SafetyTests.{subset}
-use Rattle.layout.specs.CompletenessTests.{same_test}
+use Rattle.layout.specs.Checking.{subset}
+use Rattle.layout.specs.Checking.{same_test}
 use Rattle.layout.specs.Records.{sixteen, member}
 use Rattle.hinted.specs.Sets.{Holds}
 use Rattle.wellformed.proofs.Says.{Says, both, either, less, equal, all_below}

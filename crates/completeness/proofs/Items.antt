@@ -8,7 +8,8 @@ use Rattle.table.specs.Lawful.{narrow, Lawful}
 use Rattle.table.specs.Hints.{Set, Hints}
 use Rattle.table.specs.Completeness.{nullable_all, first_of}
 use Rattle.layout.specs.Choices.{given, implies, below}
-use Rattle.layout.specs.CompletenessTests.{reduces_by, done_reduces}
+use Rattle.layout.specs.Checking.{reduces_by}
+use Rattle.layout.specs.CompletenessTests.{done_reduces}
 use Rattle.hinted.specs.Sets.{Holds, InRange as HintsInRange}
 use Rattle.wellformed.proofs.Tests.{T_and, T_or}
 use Rattle.completeness.specs.declared.item.Item.{Item}

@@ -11,7 +11,8 @@ use Rattle.table.specs.Lawful.{narrow, Lawful}
 use Rattle.table.specs.Hints.{Hints, added, right_of}
 use Rattle.table.specs.Completeness.{nullable_all, first_of}
 use Rattle.layout.specs.Choices.{given, implies, before, run, below, some_below}
-use Rattle.layout.specs.CompletenessTests.{same_test, rule_count, some_right, equations_hold}
+use Rattle.layout.specs.Checking.{same_test}
+use Rattle.layout.specs.CompletenessTests.{rule_count, some_right, equations_hold}
 use Rattle.hinted.specs.Sets.{Holds, InRange as HintsInRange}
 use Rattle.wellformed.proofs.Tests.{none_some, some_same, T_some, T_given}
 use Rattle.completeness.specs.Rights.{rights}

@@ -2,8 +2,8 @@
 use Rattle.std.proofs.Common.{◌≡◌, ℕ, ◌<◌, Bool, true, false, T, ◌↔◌, refl}
 use Rattle.table.specs.Hints.{Set, ◌∈◌, ◌⊆◌}
 use Rattle.layout.specs.Choices.{implies, below}
-use Rattle.layout.specs.SafetyTests.{subset}
-use Rattle.layout.specs.CompletenessTests.{same_test}
+use Rattle.layout.specs.Checking.{subset}
+use Rattle.layout.specs.Checking.{same_test}
 use Rattle.wellformed.proofs.Tests.{T_implies, implies_T, T_below, below_T}
 use Rattle.wellformed.proofs.Says.{Says}
 

@@ -7,8 +7,9 @@ use Rattle.table.specs.Hints.{Set, ◌∈◌, Hints, right_side}
 use Rattle.table.specs.Completeness.{wanted}
 use Rattle.layout.specs.Choices.{given, implies, below}
 use Rattle.layout.specs.Records.{sixteen, member}
-use Rattle.layout.specs.SafetyTests.{subset}
-use Rattle.layout.specs.CompletenessTests.{reduces_by, shifts_to, each_rule, items_closed, done_reduces}
+use Rattle.layout.specs.Checking.{subset}
+use Rattle.layout.specs.Checking.{reduces_by, shifts_to}
+use Rattle.layout.specs.CompletenessTests.{each_rule, items_closed, done_reduces}
 use Rattle.layout.specs.CompletenessTests.{one_dot_on, final_accepts, item_complete}
 use Rattle.hinted.specs.Sets.{Holds}
 use Rattle.completeness.specs.declared.item.Item.{Item}

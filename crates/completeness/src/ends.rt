@@ -1,7 +1,7 @@
 //! Items with nothing behind the dot: reduced, or accepted, on each look-ahead.
 ghost use Rattle.std.specs.Prelude.{◌≡◌};
 ghost use Rattle.layout.specs.Records.{sixteen, member};
-ghost use Rattle.layout.specs.CompletenessTests.{accepts as accepts_by, reduces_by};
+ghost use Rattle.layout.specs.Checking.{accepts as accepts_by, reduces_by};
 ghost use Rattle.completeness.specs.Items.{HasLooks, accepted_at_end, actions_reduced, reduced, complete_at_end};
 
 use crate::beginnings::ADDED;

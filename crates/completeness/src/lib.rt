@@ -1,5 +1,7 @@
 //! The completeness validator: the conditions by which every text of a grammar can be read, tested for any table that
 //! comes with hints.
+#![tactic(auto)]
+
 mod beginnings;
 mod closure;
 mod ends;

@@ -1,5 +1,7 @@
 //! Dense tables: each question is a bounds test and an index into constant rows, and one computed test of all rows says
 //! that the table is lawful, or valid.
+#![tactic(auto)]
+
 ghost use Rattle.std.specs.Prelude.{◌≡◌, slice_index_or};
 ghost use Rattle.table.specs.Automaton.{nth};
 ghost use Rattle.dense.specs.Rows.{cell};

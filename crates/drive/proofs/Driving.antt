@@ -1,5 +1,5 @@
 -- A reading on its way through calls.
-use Rattle.std.proofs.Common.{◌≡◌, ℕ, ◌+◌, ◌<◌, ◌≤◌, ◌⊎◌, List, [], ◌∷◌, ◌++◌, length, get_or, take, sym, refl, ap, ◌∙◌, subst, ⊎_elim}
+use Rattle.std.proofs.Common.{◌≡◌, ℕ, ◌+◌, ◌<◌, ◌≤◌, ◌⊎◌, List, [], length, get_or, take, sym, refl, ap, ◌∙◌, subst, ⊎_elim}
 use Rattle.std.proofs.lemmas.List.{take_more, take_all}
 use Rattle.table.specs.declared.Table as tables
 use Rattle.source.specs.declared.Source as sources
@@ -10,8 +10,7 @@ use Rattle.machine.specs.Reading.{State}
 use Rattle.machine.specs.Calls.{report as told}
 use Rattle.machine.specs.Runs.{new, after}
 use Rattle.reading.specs.declared.Reading.{Reading}
-use Rattle.reading.specs.Means.{reads, run_of, Reaches, Made}
-use Rattle.reading.specs.Promises.{Parts}
+use Rattle.reading.specs.Means.{run_of, Reaches, Made}
 use Rattle.reading.proofs.Making.{told_so}
 use Rattle.drive.specs.declared.Driven.{Driven}
 use Rattle.drive.specs.Runs.{Closed, Ran}

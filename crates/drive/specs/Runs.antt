@@ -4,7 +4,6 @@ use Rattle.table.specs.declared.Table as tables
 use Rattle.source.specs.declared.Source as sources
 use Rattle.sink.specs.declared.Sink as sinks
 use Rattle.outcome.specs.declared.Call.{Call}
-use Rattle.machine.specs.Reading.{State}
 use Rattle.machine.specs.Calls.{report as told}
 use Rattle.machine.specs.Runs.{after}
 use Rattle.reading.specs.declared.Reading.{Reading}

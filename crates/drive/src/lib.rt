@@ -1,4 +1,6 @@
 //! Whole runs: a reading made of its parts, taken through a list of calls, and finished.
+#![tactic(auto)]
+
 ghost use Rattle.std.specs.Prelude.{◌≡◌};
 ghost use Rattle.reading.specs.Means.{run_of, Made};
 ghost use Rattle.reading.specs.Promises.{Kept, Checked};

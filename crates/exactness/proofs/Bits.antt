@@ -7,8 +7,8 @@ use Rattle.std.proofs.lemmas.Bool.{cases_lt, cases_eq, eq-eqb}
 use Rattle.table.specs.Lawful.{narrow}
 use Rattle.table.specs.Hints.{Set, ◌∈◌}
 use Rattle.layout.specs.Choices.{below}
-use Rattle.layout.specs.SafetyTests.{subset}
-use Rattle.layout.specs.CompletenessTests.{same_test}
+use Rattle.layout.specs.Checking.{subset}
+use Rattle.layout.specs.Checking.{same_test}
 use Rattle.layout.specs.Records.{Format, sixteen, member}
 use Rattle.wellformed.proofs.Says.{Says, both, either, less, equal, all_below}
 use Rattle.wellformed.proofs.Tests.{eq_T}

@@ -12,7 +12,8 @@ use Rattle.table.specs.Hints.{Set, ◌∈◌, ◌⊆◌, Hints, HintsLawful, add
 use Rattle.table.specs.Completeness.{nullable_symbol, first_symbol, nullable_all, first_of, wanted}
 use Rattle.table.specs.Completeness.{Item, OneDotOn, SomeRight, Complete}
 use Rattle.layout.specs.Choices.{given}
-use Rattle.layout.specs.CompletenessTests.{reduces_by, accepts, shifts_to, rule_count, some_right, each_rule}
+use Rattle.layout.specs.Checking.{reduces_by, accepts, shifts_to}
+use Rattle.layout.specs.CompletenessTests.{rule_count, some_right, each_rule}
 use Rattle.layout.specs.CompletenessTests.{equations_hold, items_closed, one_dot_on, item_complete, item_at}
 use Rattle.layout.specs.CompletenessTests.{initial_item}
 use Rattle.wellformed.proofs.Tests.{eq_T, T_and, T_or, none_some, some_same, given_T}
@@ -62,7 +63,7 @@ says_if_found {Q = Q} s (Some x) = record {
   back = λ h. (s x).back (h x refl);
 }
 
-says_and_then : {x y : Bool} {P Q : Type 0} → Says x P → Says y Q → Says (cond x y false) (P × Q)
+pub says_and_then : {x y : Bool} {P Q : Type 0} → Says x P → Says y Q → Says (cond x y false) (P × Q)
 says_and_then {x = true} p q = record { to = λ h. (p.to tt, q.to h); back = λ h. q.back h.1 }
 says_and_then {x = false} p q = record { to = λ h. absurd h; back = λ h. p.back h.0 }
 
@@ -125,7 +126,7 @@ module _ {n : ℕ} (M : Automaton) (H : Hints) (law : Lawful n M) (fit : HintsLa
   unfolding rule_count
   numbered p (r, e) = all_run productions M.grammar law.rules_gapless p (law.rules p r e).number (r, e)
 
-  says_right : (b : ℕ) (f : List Symbol → Bool) →
+  pub says_right : (b : ℕ) (f : List Symbol → Bool) →
       Says (some_right M.grammar b f) (SomeRight M.grammar b (λ α. T (f α)))
   says_right b f =
       says_as
@@ -134,7 +135,7 @@ module _ {n : ℕ} (M : Automaton) (H : Hints) (law : Lawful n M) (fit : HintsLa
       (one_below (rule_count M.grammar) (λ p.
       there_is (λ r. says_and_then (equal r.left b) (itself (f r.right))) (M.grammar p)))
 
-  says_each : (b : ℕ) {f : ℕ → Bool} {Q : ℕ → Type 0} → ((q : ℕ) → Says (f q) (Q q)) →
+  pub says_each : (b : ℕ) {f : ℕ → Bool} {Q : ℕ → Type 0} → ((q : ℕ) → Says (f q) (Q q)) →
       Says (each_rule M.grammar b f) ((q : ℕ) (r : Rule) → M.grammar q ≡ Some r → r.left ≡ b → Q q)
   says_each b s =
       says_as

@@ -1,5 +1,6 @@
 -- The verdict is none exactly of the sheets that meet all conditions, and these hold valid tables.
-use Rattle.std.proofs.Common.{◌≡◌, ℕ, ◌+◌, ◌<◌, ◌≤◌, Bool, false, cond, T, ltb, List, is_some, None, ap, arith, lit≤}
+use Rattle.std.proofs.Common.{◌≡◌, ℕ, ◌+◌, ◌<◌, ◌≤◌, Bool, false, cond, T, ltb, List, is_some, Some, None, Option, sym, refl, ap, arith, lit≤}
+use Rattle.std.proofs.lemmas.Bool.{false≢true}
 use Rattle.syntax.specs.Grammar.{terminals}
 use Rattle.table.specs.Lawful.{narrow}
 use Rattle.table.specs.Validity.{Valid}
@@ -7,8 +8,7 @@ use Rattle.layout.specs.declared.Refusal.TheVariants.{Unsafe, Incomplete}
 use Rattle.layout.specs.Records.{Sheet, sheet, count, record_at}
 use Rattle.layout.specs.Meaning.{automaton, hints}
 use Rattle.layout.specs.Opening.{by_letter, opening}
-use Rattle.layout.specs.CompletenessTests.{initial_item}
-use Rattle.layout.specs.Checking.{safe_as, complete_as, checking_passes, verdict}
+use Rattle.layout.specs.Checking.{safe_as, complete_as, initial_item, checking_passes, verdict}
 use Rattle.wellformed.specs.Told.{AllClean}
 use Rattle.wellformed.proofs.Tests.{T_unless, unless_T}
 use Rattle.wellformed.proofs.Says.{Says, split, less}
@@ -28,15 +28,15 @@ module _ (sh : Sheet) where
 
   -- the last pass tests a record, and behind the last record the initial item
   says_last : (i : ℕ) →
-      Says (cond (ltb i (count sh)) (record_complete i) (initial_item (automaton sh) (hints sh)))
-      ((i < count sh → T (record_complete i)) × ((i < count sh → ⊥) → T (initial_item (automaton sh) (hints sh))))
+      Says (cond (ltb i (count sh)) (record_complete i) (initial_item sh))
+      ((i < count sh → T (record_complete i)) × ((i < count sh → ⊥) → T (initial_item sh)))
   says_last i = split (less i (count sh)) (itself _) (itself _)
 
   -- every record is safe and complete, and there is the initial item
   pub record AllPass : Type 0 where
     pub safe : EachRecord sh (safe_as sh)
     pub complete : EachRecord sh (complete_as sh)
-    pub initial : T (initial_item (automaton sh) (hints sh))
+    pub initial : T (initial_item sh)
 
   clean_passes : AllClean (checking_passes sh) → AllPass
   clean_passes (safe-clean, (complete-clean, end)) =

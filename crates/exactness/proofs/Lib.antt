@@ -7,6 +7,7 @@ pub mod Hints
 pub mod SafeTable
 pub mod Safe
 pub mod CompleteTable
+pub mod Agree
 pub mod Complete
 pub mod Exact
 pub mod Practice

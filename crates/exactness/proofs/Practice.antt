@@ -3,16 +3,15 @@ use Rattle.std.proofs.Common.{◌≡◌, false, drop, is_some, refl, ap}
 use Rattle.layout.specs.Choices.{first, below, some_below, every, gather, run}
 use Rattle.layout.specs.Records.{sheet, count, record_at, key, payload, member}
 use Rattle.layout.specs.Meaning.{placed}
-use Rattle.layout.specs.SafetyTests.{same_symbols, covers}
-use Rattle.layout.specs.CompletenessTests.{rule_count}
+use Rattle.layout.specs.Checking.{same_symbols, covers}
 use Rattle.layout.specs.Checking.{verdict}
-use Rattle.layout.specs.Practice.{practice_bytes, AllHold}
-use Rattle.exactness.specs.Cases.{cases, CasesHold}
+use Rattle.layout.specs.Practice.{practice_bytes}
+use Rattle.exactness.specs.Cases.{cases, AllHold, CasesHold}
 
 pub cases_hold : CasesHold
-unfolding verdict first below some_below every gather run count record_at key payload member placed same_symbols covers rule_count
+unfolding verdict first below some_below every gather run count record_at key payload member placed same_symbols covers
 cases_hold =
-    let last : AllHold verdict (drop 7 cases) = (refl, (refl, (refl, (refl, (refl, (refl, (refl, tt))))))) in
+    let last : AllHold (drop 7 cases) = (refl, (refl, (refl, (refl, (refl, (refl, (refl, tt))))))) in
     (refl, (refl, (refl, (refl, (refl, (refl, (refl, last)))))))
 
 pub practice_passes : is_some (verdict (sheet practice_bytes)) ≡ false

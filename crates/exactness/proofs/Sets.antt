@@ -7,8 +7,8 @@ use Rattle.syntax.specs.Grammar.{Every}
 use Rattle.table.specs.Hints.{Set, ◌∈◌, ◌⊆◌}
 use Rattle.table.specs.Safety.{Ends, Covers}
 use Rattle.layout.specs.Choices.{given, implies, below}
-use Rattle.layout.specs.SafetyTests.{subset, same_symbols, ends, covers}
-use Rattle.layout.specs.CompletenessTests.{same_test}
+use Rattle.layout.specs.Checking.{subset, same_symbols, ends, covers}
+use Rattle.layout.specs.Checking.{same_test}
 use Rattle.wellformed.proofs.Tests.{T_and, and_T, T_implies, implies_T, T_below, below_T, T_given, given_T}
 use Rattle.wellformed.proofs.Says.{Says, always, both, symbols_same}
 

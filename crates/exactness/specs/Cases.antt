@@ -1,8 +1,9 @@
 -- Sheets near the practice sheet, and what the verdict on each is.
-use Rattle.std.specs.Prelude.{ℕ, List, [], ◌∷◌, ◌++◌, take, Some, None}
+use Rattle.std.specs.Prelude.{◌≡◌, ℕ, List, [], ◌∷◌, ◌++◌, take, Some, None}
 use Rattle.layout.specs.declared.Letter.TheVariants.{P, S}
 use Rattle.layout.specs.declared.Refusal.TheVariants.{Length, Unsafe, Incomplete}
-use Rattle.layout.specs.Practice.{row, no_symbols, act, default, goto, item, past, nonterminal, joined, actions, items, pasts, productions, states, practice_bytes, Case, case, AllHold}
+use Rattle.layout.specs.Records.{sheet}
+use Rattle.layout.specs.Practice.{row, no_symbols, act, default, goto, item, past, nonterminal, joined, actions, items, pasts, productions, states, practice_bytes, Case, case}
 use Rattle.layout.specs.Checking.{verdict}
 
 -- actions, default reductions and gotos
@@ -59,5 +60,9 @@ cases =
     ∷ case (nonterminal 0 1 0 ++ row P 0 0 0 0 0 no_symbols ++ row S 0 0 0 255 0 no_symbols) (Some (Incomplete 3))
     ∷ []
 
+abbrev pub AllHold : List Case → Type 0
+AllHold [] = Unit {0}
+AllHold (c ∷ cs) = (verdict (sheet c.bytes) ≡ c.refused) × AllHold cs
+
 abbrev pub CasesHold : Type 0
-CasesHold = AllHold verdict cases
+CasesHold = AllHold cases

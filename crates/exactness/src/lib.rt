@@ -1,4 +1,6 @@
 //! Theorems about the verdict on a sheet: which sheets pass, what is told of the others, and what passing promises.
+#![tactic(auto)]
+
 ghost use Rattle.exactness.specs.Cases.{CasesHold};
 ghost use Rattle.exactness.specs.Exactness.{PassesExactlyTheValid, PassesInEachFormat, HintsAreLawful, CheckedIsValid, VerdictTellsFirst};
 

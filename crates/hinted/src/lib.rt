@@ -1,4 +1,6 @@
 //! A table that comes with the hints of its maker, as the validators ask it.
+#![tactic(auto)]
+
 ghost use Rattle.std.specs.Prelude.{◌≡◌, ℕ, length};
 ghost use Rattle.table.specs.Automaton.{nth};
 ghost use Rattle.table.specs.Hints.{Hints};

@@ -1,7 +1,7 @@
 -- The items table passes the tests of its validity under its hints, by computation.
 use Rattle.std.proofs.Common.{◌≡◌, true, refl}
 use Rattle.layout.specs.Choices.{below, some_below, every, run}
-use Rattle.layout.specs.SafetyTests.{same_symbols, covers}
+use Rattle.layout.specs.Checking.{same_symbols, covers}
 use Rattle.layout.specs.CompletenessTests.{rule_count}
 use Rattle.dense.specs.LawTests.{each_at}
 use Rattle.dense.specs.HintRows.{listed, looks_of}

@@ -1,4 +1,6 @@
 //! The table of the items language as dense constants: every question is answered by an index.
+#![tactic(auto)]
+
 ghost use Rattle.table.specs.Lawful.{narrow};
 ghost use Rattle.table.specs.Validity.{Valid};
 ghost use Rattle.dense.specs.Rows.{automaton_of};

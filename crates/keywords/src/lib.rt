@@ -1,4 +1,6 @@
 //! A layer that gives words of listed spellings kinds of their own.
+#![tactic(auto)]
+
 ghost use Rattle.std.specs.Prelude.{◌≡◌, []};
 ghost use Rattle.source.specs.Streams.{above};
 ghost use Rattle.streams.specs.Rekinded.{rekinded};

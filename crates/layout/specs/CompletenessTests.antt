@@ -1,5 +1,5 @@
 -- The completeness conditions as tests of a table and its hints, by nonterminal and item.
-use Rattle.std.specs.Prelude.{ℕ, ◌+◌, Bool, true, false, cond, not, ◌&&◌, List, [], ◌∷◌, length, drop, ◌==◌}
+use Rattle.std.specs.Prelude.{ℕ, ◌+◌, Bool, true, false, cond, ◌&&◌, List, [], ◌∷◌, length, drop, ◌==◌}
 use Rattle.syntax.specs.declared.Symbol.{Symbol}
 use Rattle.syntax.specs.declared.Symbol.TheVariants.{Terminal, Nonterminal}
 use Rattle.syntax.specs.Grammar.{Rule, Grammar, terminals, productions}
@@ -9,31 +9,7 @@ use Rattle.table.specs.Automaton.{Automaton, decide}
 use Rattle.table.specs.Hints.{Set, Hints, added, right_side}
 use Rattle.table.specs.Completeness.{nullable_all, first_of, wanted}
 use Rattle.layout.specs.Choices.{given, implies, below, some_below, run}
-use Rattle.layout.specs.SafetyTests.{subset}
-
--- TESTS OF ACTIONS
-
-abbrev pub reduces_by : ℕ → Action → Bool
-reduces_by p (Shift t) = false
-reduces_by p (Reduce q) = q == p
-reduces_by p Accept = false
-reduces_by p Reject = false
-
-abbrev pub accepts : Action → Bool
-accepts (Shift t) = false
-accepts (Reduce q) = false
-accepts Accept = true
-accepts Reject = false
-
-abbrev pub shifts_to : (ℕ → Bool) → Action → Bool
-shifts_to f (Shift t) = f t
-shifts_to f (Reduce q) = false
-shifts_to f Accept = false
-shifts_to f Reject = false
-
-abbrev pub same_test : Bool → Bool → Bool
-same_test true y = y
-same_test false y = not y
+use Rattle.layout.specs.Checking.{subset, same_test, reduces_by, accepts, shifts_to}
 
 -- TESTS OF PRODUCTIONS
 

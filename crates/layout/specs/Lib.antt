@@ -5,7 +5,7 @@ pub mod Meaning
 pub mod Search
 pub mod Passes
 pub mod Opening
+pub mod Checking
 pub mod SafetyTests
 pub mod CompletenessTests
-pub mod Checking
 pub mod Practice

@@ -4,7 +4,7 @@ use Rattle.layout.specs.declared.Letter.{Letter}
 use Rattle.layout.specs.declared.Letter.TheVariants.{A, D, G, I, K, N, P, S}
 use Rattle.layout.specs.declared.Refusal.{Refusal}
 use Rattle.layout.specs.declared.Refusal.TheVariants.{Length, Order, Range, Absent, Contradiction}
-use Rattle.layout.specs.Records.{Sheet, sheet, code}
+use Rattle.layout.specs.Records.{sheet, code}
 use Rattle.layout.specs.Opening.{opening}
 
 -- a record: its letter and numbers, its first two fields, its payload
@@ -67,7 +67,7 @@ abbrev pub practice_bytes : List ℕ
 practice_bytes =
     joined (actions ∷ default 0 0 ∷ default 2 1 ∷ goto 0 0 1 ∷ items ∷ pasts ∷ grammar ∷ [])
 
--- bytes, and what is refused of them
+-- bytes, and what opening refuses of them
 pub record Case : Type 0 where
   pub bytes : List ℕ
   pub refused : Option Refusal
@@ -93,10 +93,9 @@ cases =
     (Some (Contradiction 3))
     ∷ []
 
--- of each sheet the function refuses what its case says
-abbrev pub AllHold : (Sheet → Option Refusal) → List Case → Type 0
-AllHold refused [] = Unit {0}
-AllHold refused (c ∷ cs) = (refused (sheet c.bytes) ≡ c.refused) × AllHold refused cs
+abbrev pub AllHold : List Case → Type 0
+AllHold [] = Unit {0}
+AllHold (c ∷ cs) = (opening (sheet c.bytes) ≡ c.refused) × AllHold cs
 
 abbrev pub CasesHold : Type 0
-CasesHold = AllHold opening cases
+CasesHold = AllHold cases

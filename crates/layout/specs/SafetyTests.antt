@@ -1,6 +1,5 @@
 -- The safety conditions as tests of a table and its hints, by state, production and action; n bounds the states.
-use Rattle.std.specs.Prelude.{ℕ, ◌-◌, Bool, true, false, not, ◌&&◌, List, [], ◌∷◌, length, drop, ◌==◌, nat_eq, nat_le}
-use Rattle.syntax.specs.declared.Symbol.{Symbol}
+use Rattle.std.specs.Prelude.{ℕ, Bool, true, false, not, ◌&&◌, List, [], ◌∷◌, length, ◌==◌, nat_eq}
 use Rattle.syntax.specs.Grammar.{Rule, start}
 use Rattle.table.specs.declared.Action.{Action}
 use Rattle.table.specs.declared.Action.TheVariants.{Shift, Reduce, Accept, Reject}
@@ -8,31 +7,7 @@ use Rattle.table.specs.Automaton.{Automaton, nth}
 use Rattle.table.specs.Hints.{Set, Hints, trail, shadow}
 use Rattle.layout.specs.Choices.{given, present, implies, below}
 use Rattle.layout.specs.Opening.{same_symbol}
-
--- TESTS OF SETS AND LISTS
-
--- each member of X below n is one of Y
-abbrev pub subset : ℕ → Set → Set → Bool
-subset n X Y = below n (λ x. let y = Y x in implies (X x) y)
-
--- the same symbols, one for one
-unfoldable pub same_symbols : List Symbol → List Symbol → Bool
-same_symbols [] [] = true
-same_symbols [] (y ∷ ys) = false
-same_symbols (x ∷ xs) [] = false
-same_symbols (x ∷ xs) (y ∷ ys) = same_symbol x y && same_symbols xs ys
-
--- ys ends with xs
-abbrev pub ends : List Symbol → List Symbol → Bool
-ends xs ys = nat_le (length xs) (length ys) && same_symbols xs (drop (length ys - length xs) ys)
-
--- no more sets than the others, and each contains the one at its depth there; both have the nearest first
-unfoldable pub covers : ℕ → List Set → List Set → Bool
-covers n [] ys = true
-covers n (X ∷ xs) [] = false
-covers n (X ∷ xs) (Y ∷ ys) = subset n Y X && covers n xs ys
-
--- THE CONDITIONS
+use Rattle.layout.specs.Checking.{subset, ends, covers}
 
 module _ (n : ℕ) (M : Automaton) (H : Hints) where
   -- a shift or goto from s to t respects the past of t

@@ -1,4 +1,6 @@
 //! What the bytes of a sheet mean, and what is refused of them: definitions, and the names that code shares with them.
+#![tactic(auto)]
+
 ghost use Rattle.std.specs.Prelude.{◌≡◌};
 ghost use Rattle.layout.specs.Refusals.{number as number_of, place as place_of};
 

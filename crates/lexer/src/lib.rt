@@ -1,4 +1,6 @@
 //! The lexer: a source that gives the tokens of a plan, from the bytes of the plan.
+#![tactic(auto)]
+
 ghost use Rattle.std.specs.Prelude.{◌≡◌, ◌≤◌, true, length};
 ghost use Rattle.streams.specs.Listed.{is_kind};
 

@@ -1,4 +1,6 @@
 //! The lexer for C: what a plan's tokens come to, so that the lexer can be measured beside one that is written in C.
+#![tactic(auto)]
+
 ghost use Rattle.std.specs.Prelude.{◌≡◌};
 ghost use Rattle.lexer_c.specs.Sums.{plan_sum, sum};
 

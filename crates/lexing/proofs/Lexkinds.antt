@@ -3,21 +3,7 @@ use Rattle.std.proofs.Common.{ℕ, zero, suc, pred, ◌+◌, ◌<◌, ◌≤◌,
 use Rattle.std.proofs.lemmas.Bool.{cond_both}
 use Rattle.syntax.specs.Grammar.{Kind, Kinded}
 use Rattle.source.specs.Streams.{Stream}
-use Rattle.lexing.specs.Plans.{
-  is_blank,
-  is_letter,
-  is_digit,
-  index_from,
-  mark_kind,
-  run,
-  token,
-  Item,
-  mark,
-  item,
-  item_then,
-  lexed,
-  lexed_from,
-}
+use Rattle.lexing.specs.Plans.{is_blank, is_letter, is_digit, index_from, mark_kind, run, Item, mark, item, item_then, lexed, lexed_from}
 use Rattle.lexing.proofs.Items.{word_cases, numeral_cases, item_cases}
 
 -- an index between low and high, or none

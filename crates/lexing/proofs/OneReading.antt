@@ -24,23 +24,7 @@ use Rattle.lexing.specs.Plans.{
   item,
   lexed_from,
 }
-use Rattle.lexing.specs.Reading.{
-  byte,
-  text,
-  Passes,
-  Run,
-  behind,
-  TokenAt,
-  a_word,
-  a_number,
-  a_mark,
-  FaultAt,
-  an_unknown_byte,
-  a_long_word,
-  a_large_number,
-  Reads,
-  TheReading,
-}
+use Rattle.lexing.specs.Reading.{text, Passes, Run, behind, TokenAt, a_word, a_number, a_mark, FaultAt, an_unknown_byte, a_long_word, a_large_number, Reads, TheReading}
 use Rattle.lexing.proofs.Items.{word_cases, numeral_cases, item_cases}
 use Rattle.lexing.proofs.Runs.{
   length_run_le,

@@ -1,5 +1,5 @@
 -- What it is to read a plan as tokens: blanks, longest runs and marks, one behind the other, up to the ending.
-use Rattle.std.specs.Prelude.{◌≡◌, ℕ, ◌+◌, ◌-◌, ◌<◌, ◌≤◌, Bool, true, false, List, [], ◌∷◌, length, Some, None, slice_index, slice_range}
+use Rattle.std.specs.Prelude.{◌≡◌, ℕ, ◌+◌, ◌<◌, ◌≤◌, Bool, true, false, List, [], ◌∷◌, length, Some, None, slice_index, slice_range}
 use Rattle.syntax.specs.declared.Token.{Token}
 use Rattle.source.specs.declared.SourceFault.{SourceFault}
 use Rattle.source.specs.declared.SourceFault.TheVariants.{UnknownByte, LongWord, LargeNumber}

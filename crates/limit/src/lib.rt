@@ -1,4 +1,6 @@
 //! A layer that lets so many tokens of a source pass, and no further one.
+#![tactic(auto)]
+
 ghost use Rattle.std.specs.Prelude.{◌≡◌};
 ghost use Rattle.source.specs.Streams.{above};
 ghost use Rattle.streams.specs.Limited.{limited};

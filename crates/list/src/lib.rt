@@ -1,4 +1,6 @@
 //! A source that gives the tokens of a caller's list.
+#![tactic(auto)]
+
 ghost use Rattle.std.specs.Prelude.{◌≡◌, false, is_some};
 ghost use Rattle.streams.specs.Listed.{first_out};
 

@@ -1,4 +1,6 @@
 //! The machine of a reading, its runs, and what is promised of every run. Each function carries a theorem.
+#![tactic(auto)]
+
 ghost use Rattle.machine.specs.Marked.{Marked};
 ghost use Rattle.machine.specs.Promise.{Promise, Bounds, AnswersTruly, OneCallMore};
 

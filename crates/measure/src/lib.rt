@@ -1,4 +1,6 @@
 //! Measures: values of tokens that are joined over a tree.
+#![tactic(auto)]
+
 ghost use Rattle.std.specs.Prelude.{◌≡◌};
 ghost use Rattle.syntax.specs.declared.Token.{Token};
 

@@ -1,4 +1,6 @@
 //! The passes over the records of a sorted sheet with each other: absent things, gaps, contradictions.
+#![tactic(auto)]
+
 mod known;
 mod names;
 mod sense;

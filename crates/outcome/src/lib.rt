@@ -1,4 +1,6 @@
 //! What a reading answers: how it stands, why it halted, which calls it declined.
+#![tactic(auto)]
+
 ghost use Rattle.std.specs.Prelude.{◌≡◌};
 ghost use Rattle.outcome.specs.declared.Halt.TheVariants.{Source as from_source, Sink as from_sink};
 ghost use Rattle.outcome.specs.Numbers.{of_halt, of_declined, place_of, ended};

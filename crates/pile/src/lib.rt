@@ -1,4 +1,6 @@
 //! A plan as a source: the lexer, the keyword layer over it, and the limit layer over that.
+#![tactic(auto)]
+
 ghost use Rattle.std.specs.Prelude.{◌≡◌, ◌++◌, IfOk, Ok as Good};
 ghost use Rattle.keywords.specs.Listing.{listing};
 ghost use Rattle.pile.specs.declared.PileRefusal.TheVariants.{Plan, Word};

@@ -1,4 +1,6 @@
 //! Plans read from their bytes: through lexer, keywords and limit, by a table, into a sink.
+#![tactic(auto)]
+
 ghost use Rattle.std.specs.Prelude.{◌≡◌, Ok as Good};
 ghost use Rattle.pile.specs.Piles.{pile_answer};
 ghost use Rattle.reading.specs.Promises.{Kept, Checked};

@@ -1,4 +1,6 @@
 //! The practice table as dense constants: every question is answered by an index.
+#![tactic(auto)]
+
 ghost use Rattle.std.specs.Prelude.{◌≡◌};
 ghost use Rattle.table.specs.Lawful.{narrow};
 ghost use Rattle.table.specs.Validity.{Valid};

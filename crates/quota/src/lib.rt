@@ -1,4 +1,6 @@
 //! A quota: a layer over any sink that takes no more than a number of events.
+#![tactic(auto)]
+
 ghost use Rattle.std.specs.Prelude.{◌≡◌};
 ghost use Rattle.quota.specs.Capped.{capped};
 

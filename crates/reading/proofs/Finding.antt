@@ -1,5 +1,5 @@
 -- What is found to do is what the machine finds.
-use Rattle.std.proofs.Common.{◌≡◌, ℕ, List, [], ◌∷◌, Some, None, Ok, Err, Option, Result, sym, refl, ap, ◌∙◌}
+use Rattle.std.proofs.Common.{◌≡◌, ℕ, List, [], ◌∷◌, Some, None, Ok, Err, Option, Result, refl}
 use Rattle.syntax.specs.declared.Token.{Token}
 use Rattle.syntax.specs.Values.{Algebra}
 use Rattle.table.specs.declared.Action.{Action}
@@ -12,7 +12,7 @@ use Rattle.outcome.specs.declared.Halt.{Halt}
 use Rattle.outcome.specs.declared.Halt.TheVariants.{Source}
 use Rattle.machine.specs.Reading.{State, found, peeked, unless_default as unless_found, place_of_next, shifting}
 use Rattle.reading.specs.declared.steps.Found.{Found}
-use Rattle.reading.specs.Steps.{listed, kind_of, seen, unless_default, finding}
+use Rattle.reading.specs.Steps.{listed, seen, unless_default, finding}
 
 -- the next token, if one is to come
 abbrev pub first : List Token → Option Token

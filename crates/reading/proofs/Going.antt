@@ -1,13 +1,12 @@
 -- What one step is of a turn.
-use Rattle.std.proofs.Common.{◌≡◌, ℕ, zero, suc, ◌+◌, ◌-◌, ◌<◌, Bool, true, false, List, [], ◌∷◌, Ok, Err, Result, sym, refl, ap, ◌∙◌, arith}
+use Rattle.std.proofs.Common.{◌≡◌, ℕ, zero, suc, ◌-◌, ◌<◌, Bool, true, Ok, Err, Result, sym, ap, ◌∙◌, arith}
 use Rattle.syntax.specs.Values.{Algebra}
 use Rattle.table.specs.declared.Action.{Action}
 use Rattle.source.specs.declared.SourceFault.{SourceFault}
 use Rattle.outcome.specs.declared.Halt.{Halt}
-use Rattle.outcome.specs.declared.Outcome.{Outcome}
 use Rattle.outcome.specs.declared.Outcome.TheVariants.{More}
 use Rattle.outcome.specs.Numbers.{ended}
-use Rattle.machine.specs.Reading.{State, with_outcome, halt, found_in, settled, look, step_by, step, go_on, spend}
+use Rattle.machine.specs.Reading.{State, with_outcome, found_in, settled, step_by, step, go_on, spend}
 use Rattle.reading.specs.Steps.{noted, going, onward}
 
 module _ {V : Type 0} (R : Algebra V) where

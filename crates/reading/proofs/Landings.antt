@@ -1,6 +1,5 @@
 -- Where a reduce leads, or how it slips.
-use Rattle.std.proofs.Common.{◌≡◌, ℕ, ◌-◌, ◌<◌, ◌≤◌, Bool, true, false, cond, List, [], ◌∷◌, ◌++◌, length, take, drop, Some, None, Ok, Err, Option, Result, sym, refl, ap, ◌∙◌, ap₂, arith, le-leb}
-use borrow.Author.Tests.{lt-leb}
+use Rattle.std.proofs.Common.{◌≡◌, ℕ, ◌-◌, ◌≤◌, Bool, cond, List, [], ◌∷◌, ◌++◌, length, take, drop, Some, None, Ok, Err, Option, Result, sym, refl, ap, ◌∙◌, ap₂, arith, le-leb}
 use Rattle.std.proofs.lemmas.List.{length-drop, take_rest}
 use Rattle.syntax.specs.declared.Production.{Production}
 use Rattle.syntax.specs.Grammar.{Rule}
@@ -10,7 +9,6 @@ use Rattle.theory.specs.Machine.{landing, landed as landed_on}
 use Rattle.theory.proofs.Clash.{clash}
 use Rattle.sink.specs.Stacks.{front, back, node_answer, node_after}
 use Rattle.outcome.specs.declared.Halt.{Halt}
-use Rattle.outcome.specs.declared.Halt.TheVariants.{Slip}
 use Rattle.machine.specs.Reading.{State, last_of, halt, stepped, if_room, going, reducing, landing_from}
 use Rattle.reading.specs.declared.steps.Landing.{Landing}
 use Rattle.reading.specs.Steps.{carrying, landed, landed_by, landing_by}

@@ -1,5 +1,5 @@
 -- What a call makes of a reading, and what is promised of the runs that lead to it.
-use Rattle.std.proofs.Common.{◌≡◌, ℕ, ◌+◌, Bool, true, false, cond, leb, List, Some, None, Option, sym, refl, ap, ◌∙◌, subst}
+use Rattle.std.proofs.Common.{◌≡◌, ℕ, ◌+◌, true, false, leb, List, Some, None, Option, sym, refl, ap, ◌∙◌, subst}
 use Rattle.table.specs.Lawful.{narrow}
 use Rattle.table.specs.Validity.{Valid}
 use Rattle.table.specs.declared.Table as tables
@@ -14,7 +14,7 @@ use Rattle.outcome.specs.declared.Declined.TheVariants.{Ended as HasEnded, TooMa
 use Rattle.outcome.specs.Numbers.{ended}
 use Rattle.machine.specs.Reading.{State, most_steps}
 use Rattle.machine.specs.Calls.{declined, unless, done, called}
-use Rattle.machine.specs.Runs.{Run, after}
+use Rattle.machine.specs.Runs.{Run}
 use Rattle.machine.proofs.Answering.{one_call_more}
 use Rattle.machine.proofs.Bounds.{bounds}
 use Rattle.machine.proofs.Promise.{promise}
@@ -22,8 +22,8 @@ use Rattle.reading.specs.declared.Phase.{Phase}
 use Rattle.reading.specs.declared.Phase.TheVariants.{Running, Ended}
 use Rattle.reading.specs.declared.state.Reading.{Reading}
 use Rattle.reading.specs.Phases.{outcome_of, sound}
-use Rattle.reading.specs.Means.{reads, run_of, Reaches, Made}
-use Rattle.reading.specs.Promises.{Kept, Checked, OfRuns, Parts, Finished}
+use Rattle.reading.specs.Means.{reads, run_of, Made}
+use Rattle.reading.specs.Promises.{Kept, Checked, OfRuns, Finished}
 
 -- phases
 

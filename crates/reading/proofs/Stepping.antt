@@ -5,19 +5,17 @@ use Rattle.table.specs.declared.Action.{Action}
 use Rattle.table.specs.declared.Action.TheVariants.{Shift, Reduce, Accept, Reject}
 use Rattle.theory.specs.Machine.{carry_start}
 use Rattle.theory.proofs.Clash.{clash}
-use Rattle.source.specs.declared.SourceFault.{SourceFault}
 use Rattle.source.specs.Streams.{Stream}
 use Rattle.sink.specs.declared.Sink as sinks
 use Rattle.outcome.specs.declared.Halt.{Halt}
-use Rattle.outcome.specs.declared.Halt.TheVariants.{Source, Slip}
-use Rattle.outcome.specs.declared.Outcome.{Outcome}
+use Rattle.outcome.specs.declared.Halt.TheVariants.{Slip}
 use Rattle.outcome.specs.declared.Outcome.TheVariants.{More, Accepted, Rejected, Halted}
 use Rattle.outcome.specs.Numbers.{ended}
-use Rattle.machine.specs.Reading.{State, last_of, found, found_in, with_outcome, halt, settled, place_of_next}
+use Rattle.machine.specs.Reading.{State, last_of, found, found_in, with_outcome, place_of_next}
 use Rattle.machine.specs.Reading.{shifting, reducing}
 use Rattle.reading.specs.declared.steps.Found.{Found}
 use Rattle.reading.specs.declared.state.Reading.{Reading}
-use Rattle.reading.specs.Steps.{listed, finding, noted, going, onward, Near}
+use Rattle.reading.specs.Steps.{listed, finding, going, onward, Near}
 use Rattle.reading.proofs.Finding.{first, fault_found, action_found, next_found, place_first, shift_first}
 use Rattle.reading.proofs.Going.{settles, steps_on}
 

@@ -1,4 +1,6 @@
 //! The reading: a table's machine, from a token source into a sink, made and asked call by call.
+#![tactic(auto)]
+
 mod calls;
 mod state;
 mod steps;

@@ -1,4 +1,6 @@
 //! Checks a sheet, reads a plan by it from beginning to end, and prints the record.
+#![tactic(auto)]
+
 use crate::request::{Request, USAGE};
 use crate::session::{Told, show_end, trace_checked, trace_raw};
 use crate::show::show_events;

@@ -1,9 +1,11 @@
 //! One record of a sheet as a value: its key, its fields, its payload.
+#![tactic(auto)]
+
 ghost use Rattle.std.specs.Prelude.{◌≡◌, ℕ, ◌+◌, ◌*◌, ◌<◌, ◌≤◌};
-ghost use Rattle.layout.specs.Records.{sixteen, at, code as code_of, letter as letter_in, key_of as key_of};
-ghost use Rattle.layout.specs.Records.{key as key_in, has_key as has_key, payload as payload_in, member as member_of};
-ghost use Rattle.layout.specs.Records.{symbol as symbol_of, maybe_symbol as maybe_symbol, action_in as action_in};
-ghost use Rattle.records.specs.Parts.{head_in as head_in, symbol_in as symbol_in};
+ghost use Rattle.layout.specs.Records.{sixteen, at, code as code_of, letter as letter_in, key_of};
+ghost use Rattle.layout.specs.Records.{key as key_in, has_key, payload as payload_in, member as member_of};
+ghost use Rattle.layout.specs.Records.{symbol as symbol_of, maybe_symbol, action_in};
+ghost use Rattle.records.specs.Parts.{head_in, symbol_in};
 
 use layout::Letter;
 use syntax::{Production, Symbol};

@@ -3,7 +3,7 @@ ghost use Rattle.std.specs.Prelude.{◌≡◌, ℕ, ◌+◌, ◌-◌, ◌<◌, �
 ghost use Rattle.layout.specs.declared.Letter.TheVariants.{A as Act, D, G, I, K, N, P, S};
 ghost use Rattle.layout.specs.Choices.{below};
 ghost use Rattle.layout.specs.Records.{sixteen, at};
-ghost use Rattle.layout.specs.Opening.{in_range as in_range, in_range_of, unused as unused_in, symbol_byte, symbol_bytes};
+ghost use Rattle.layout.specs.Opening.{in_range, in_range_of, unused as unused_in, symbol_byte, symbol_bytes};
 ghost use Rattle.layout.specs.Opening.{action_bytes};
 
 use crate::{ADDED, LONGEST, NO_SYMBOL, Record};

@@ -1,4 +1,6 @@
 //! Events as data: a list of them goes to any sink, up to the first that it refuses.
+#![tactic(auto)]
+
 ghost use Rattle.std.specs.Prelude.{◌≡◌, true, is_err};
 ghost use Rattle.sink.specs.Stacks.{capacity};
 ghost use Rattle.replay.specs.Events.{answer as answer_of, after as after_of, Sent};

@@ -8,7 +8,8 @@ use Rattle.table.specs.Lawful.{narrow}
 use Rattle.table.specs.Hints.{Set, Hints, shadow}
 use Rattle.layout.specs.Choices.{given, present, implies, below}
 use Rattle.layout.specs.Records.{sixteen, member}
-use Rattle.layout.specs.SafetyTests.{subset, covers, all_go, initial_alone}
+use Rattle.layout.specs.Checking.{subset, covers}
+use Rattle.layout.specs.SafetyTests.{all_go, initial_alone}
 use Rattle.wellformed.proofs.Tests.{none_some, some_same, T_below, below_T}
 use Rattle.hinted.specs.Sets.{Holds, HoldsIfAny}
 use Rattle.hinted.proofs.Held.{holds_some, holds_none}

@@ -6,7 +6,7 @@ use Rattle.syntax.specs.declared.Symbol.{Symbol}
 use Rattle.table.specs.Automaton.{nth}
 use Rattle.table.specs.Hints.{incoming_list}
 use Rattle.layout.specs.Choices.{below}
-use Rattle.layout.specs.SafetyTests.{same_symbols, ends}
+use Rattle.layout.specs.Checking.{same_symbols, ends}
 use Rattle.wellformed.proofs.Loops.{below_shift}
 use Rattle.safety.specs.Parts.{same_ones}
 use Rattle.safety.proofs.Depths.{below_same}

@@ -7,7 +7,8 @@ use Rattle.table.specs.Hints.{Set, Hints, trail, shadow}
 use Rattle.layout.specs.Choices.{given}
 use Rattle.layout.specs.Records.{sixteen, member}
 use Rattle.layout.specs.Opening.{same_symbol}
-use Rattle.layout.specs.SafetyTests.{ends, covers, all_go, initial_alone}
+use Rattle.layout.specs.Checking.{ends, covers}
+use Rattle.layout.specs.SafetyTests.{all_go, initial_alone}
 use Rattle.safety.specs.declared.symbols.Symbols.{Symbols}
 use Rattle.safety.specs.declared.symbols.Symbols.TheVariants.{Past, Right}
 

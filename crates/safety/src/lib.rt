@@ -1,4 +1,6 @@
 //! The safety conditions, tested of any table that comes with hints. Where every test passes, no reading slips.
+#![tactic(auto)]
+
 ghost use Rattle.std.specs.Prelude.{◌≡◌, false};
 ghost use Rattle.table.specs.Lawful.{narrow};
 ghost use Rattle.syntax.specs.Grammar.{start};

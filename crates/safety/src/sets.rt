@@ -3,7 +3,7 @@ ghost use Rattle.std.specs.Prelude.{◌≡◌, ℕ, ◌/◌, ◌^◌, ◌<◌, �
 ghost use Rattle.table.specs.Automaton.{nth};
 ghost use Rattle.table.specs.Lawful.{narrow};
 ghost use Rattle.layout.specs.Records.{sixteen, member as member_of};
-ghost use Rattle.layout.specs.SafetyTests.{subset};
+ghost use Rattle.layout.specs.Checking.{subset};
 ghost use Rattle.hinted.specs.Sets.{Holds, HoldsIfAny};
 ghost use Rattle.safety.specs.Parts.{alone, marked, covered, all_members_go};
 

@@ -1,4 +1,6 @@
 //! Raw sheets: bytes in which opening finds nothing, asked as a table and for its hints.
+#![tactic(auto)]
+
 mod hints;
 mod numbered;
 mod opening;

@@ -1,5 +1,5 @@
 -- What a sink stands for, and what an event makes of it.
-use Rattle.std.specs.Prelude.{ℕ, ◌+◌, ◌-◌, Bool, true, false, cond, ◌&&◌, ◌||◌, List, [], ◌∷◌, ◌++◌, length, take, drop, Ok, Err, Result, ◌==◌, nat_lt}
+use Rattle.std.specs.Prelude.{ℕ, ◌+◌, ◌-◌, Bool, false, cond, ◌&&◌, ◌||◌, List, [], ◌∷◌, ◌++◌, length, take, drop, Ok, Err, Result, ◌==◌, nat_lt}
 use Rattle.syntax.specs.declared.Token.{Token}
 use Rattle.syntax.specs.Values.{Algebra}
 use Rattle.sink.specs.declared.SinkFault.{SinkFault}

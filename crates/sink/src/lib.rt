@@ -1,4 +1,6 @@
 //! Sinks: what takes the events of a reading, a leaf for each token and a node for each reduction.
+#![tactic(auto)]
+
 ghost use Rattle.std.specs.Prelude.{◌≡◌, true, length, is_err};
 ghost use Rattle.syntax.specs.Values.{Algebra};
 ghost use Rattle.sink.specs.Stacks.{Stack, leaf_answer, leaf_after, node_answer, node_after};

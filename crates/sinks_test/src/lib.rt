@@ -1,4 +1,5 @@
 //! What a user sees of the sinks, on examples.
+#![tactic(auto)]
 
 #[cfg(test)]
 mod layer_tests;

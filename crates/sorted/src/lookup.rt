@@ -1,7 +1,7 @@
 //! The look-up of a record by its key.
 ghost use Rattle.std.specs.Prelude.{◌≡◌, ℕ, ◌<◌, ◌≤◌};
-ghost use Rattle.layout.specs.Records.{sheet, count as count_of, code as code_of, key_of as key_of};
-ghost use Rattle.layout.specs.Search.{position, start as start_of, starts as starts_of, index_of as index_of};
+ghost use Rattle.layout.specs.Records.{sheet, count as count_of, code as code_of, key_of};
+ghost use Rattle.layout.specs.Search.{position, start as start_of, starts as starts_of, index_of};
 ghost use Rattle.wellformed.specs.Formed.{Sorted};
 ghost use Rattle.wellformed.proofs.Seeks.{Between};
 ghost use Rattle.sorted.specs.Contents.{contents, sheet_in};

@@ -3,7 +3,7 @@ ghost use Rattle.std.specs.Prelude.{◌≡◌, ℕ, ◌<◌, ◌≤◌, length};
 ghost use Rattle.layout.specs.Records.{sheet, count as count_of};
 ghost use Rattle.layout.specs.Refusals.{answered, held};
 ghost use Rattle.layout.specs.Practice.{practice_bytes};
-ghost use Rattle.layout.specs.Opening.{in_order as in_order, length_fits, length_found, records_found, sorting};
+ghost use Rattle.layout.specs.Opening.{in_order, length_fits, length_found, records_found, sorting};
 ghost use Rattle.wellformed.specs.Formed.{Sorted};
 ghost use Rattle.sorted.specs.Contents.{contents};
 

@@ -1,4 +1,6 @@
 //! Token sources: the interface, and the faults that a source can end in.
+#![tactic(auto)]
+
 ghost use Rattle.std.specs.Prelude.{◌≡◌, ℕ};
 ghost use Rattle.syntax.specs.Grammar.{Kinded};
 ghost use Rattle.source.specs.Streams.{Stream, answer, dropped};

@@ -1,4 +1,6 @@
 //! Worked cases of the token sources: rows that the prover computes, and a table of sources that are run.
+#![tactic(auto)]
+
 ghost use Rattle.source_cases.specs.Rows.{RowsHold};
 
 use crate::keyed::show_keywords;

@@ -1,4 +1,6 @@
 //! What layers make of a stream of tokens: the definitions, and the lemmas that the crates of the layers use.
+#![tactic(auto)]
+
 ghost use Rattle.std.specs.Prelude.{◌≡◌};
 ghost use Rattle.streams.specs.Listed.{is_kind};
 

@@ -1,4 +1,5 @@
 //! What a plan is made of: its tokens, and the symbols and productions of its grammar.
+#![tactic(auto)]
 
 /// A piece of a plan. Its kind is the terminal that it stands for, 1 to 31; terminal 0, END, is no token.
 #[derive(Clone, Copy, PartialEq, Eq, Debug)]

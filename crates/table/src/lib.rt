@@ -1,4 +1,6 @@
 //! An LR(1) table as a reading asks it: the interface, whatever holds the table.
+#![tactic(auto)]
+
 ghost use Rattle.std.specs.Prelude.{◌≡◌, ℕ};
 ghost use Rattle.table.specs.Automaton.{Automaton, head, symbol_at};
 ghost use Rattle.table.specs.Lawful.{Lawful, narrow};

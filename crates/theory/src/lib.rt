@@ -1,4 +1,6 @@
 //! What holds of every LR(1) table and its machine without bounds. Each function carries a theorem.
+#![tactic(auto)]
+
 ghost use Rattle.table.specs.Lawful.{narrow};
 ghost use Rattle.table.specs.Validity.{Valid};
 ghost use Rattle.theory.specs.Practice.{practice};

@@ -2,6 +2,8 @@
 //!
 //! `tokens [--limit=N] [--word=SPELLING=KIND].. PLAN` reads the file PLAN. Words of the given spellings get the given
 //! kinds, and at most N tokens pass.
+#![tactic(auto)]
+
 use crate::listing::Listing;
 use crate::pile::list_plan;
 use crate::refusal::Refusal;

@@ -1,4 +1,6 @@
 //! Totals: a sink that measures trees, on a stack in a caller's slice.
+#![tactic(auto)]
+
 ghost use Rattle.std.specs.Prelude.{◌≡◌, ◌<◌, ◌≤◌, min, length};
 ghost use Rattle.measure.specs.Joins.{joining};
 ghost use Rattle.totals.specs.Meaning.{places as places_of, meaning as meaning_of, merged};

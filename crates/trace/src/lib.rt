@@ -1,4 +1,6 @@
 //! The trace: a sink that writes the events of a reading as records of 16 bytes into a caller's bytes.
+#![tactic(auto)]
+
 ghost use Rattle.std.specs.Prelude.{◌≡◌, ℕ, ◌+◌, ◌<◌, ◌≤◌, List, length};
 ghost use Rattle.std.proofs.Math.Seq.{paste};
 ghost use Rattle.trace.specs.declared.Trace.{Trace};

@@ -1,4 +1,6 @@
 //! Theorems about the bytes of a sheet: which are well-formed, what is told of the others, and what table they hold.
+#![tactic(auto)]
+
 ghost use Rattle.layout.specs.Practice.{CasesHold};
 ghost use Rattle.wellformed.specs.Formed.{SortsExactlySorted, OpensExactlyFormed, FormedIsLawful};
 ghost use Rattle.wellformed.specs.Told.{TellsFirst, OpeningTellsFirst};

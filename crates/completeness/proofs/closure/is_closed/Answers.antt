@@ -1,6 +1,6 @@
 use Rattle.std.proofs.Common.{◌∙◌}
 use Rattle.syntax.specs.Grammar.{terminals}
-use Rattle.layout.specs.SafetyTests.{subset}
+use Rattle.layout.specs.Checking.{subset}
 use Rattle.layout.specs.CompletenessTests.{each_rule}
 use Rattle.completeness.proofs.Items.{wanted_few}
 use Rattle.completeness.proofs.closure.is_closed.Goals as goal

@@ -2,7 +2,7 @@ use Rattle.std.proofs.Common.{◌≡◌, ℕ, true, sym, ap, ◌∙◌, subst, a
 use Rattle.std.proofs.lemmas.Bool.{eq-eqb, ne_eqb}
 use Rattle.syntax.specs.Grammar.{terminals}
 use Rattle.layout.specs.Choices.{implies, below}
-use Rattle.layout.specs.CompletenessTests.{reduces_by}
+use Rattle.layout.specs.Checking.{reduces_by}
 use Rattle.wellformed.proofs.Loops.{below_start, below_more, below_fails}
 use Rattle.completeness.specs.Items.{looks_of}
 use Rattle.completeness.proofs.Bits.{bit_is}

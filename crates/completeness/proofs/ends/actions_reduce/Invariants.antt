@@ -1,6 +1,6 @@
 use Rattle.std.proofs.Common.{◌≡◌, true}
 use Rattle.layout.specs.Choices.{implies, below}
-use Rattle.layout.specs.CompletenessTests.{reduces_by}
+use Rattle.layout.specs.Checking.{reduces_by}
 use Rattle.completeness.specs.Items.{looks_of}
 use Rattle.completeness.proofs.ends.actions_reduce.Given as goal
 

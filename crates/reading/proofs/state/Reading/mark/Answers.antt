@@ -1,4 +1,4 @@
-use Rattle.std.proofs.Common.{◌≡◌, Ok, sym, refl, ap, ◌∙◌}
+use Rattle.std.proofs.Common.{Ok, sym, refl, ap, ◌∙◌}
 use Rattle.outcome.specs.declared.Call.TheVariants.{Mark}
 use Rattle.machine.specs.Calls.{report, or_declined}
 use Rattle.reading.specs.Means.{reads}

@@ -1,6 +1,6 @@
-use Rattle.std.proofs.Common.{◌≡◌, ◌+◌, ◌-◌, ◌<◌, ◌≤◌, [], ◌∷◌, ◌++◌, length, take, is_err, Ok, Err, sym, refl, ap, ◌∙◌, arith}
+use Rattle.std.proofs.Common.{◌-◌, ◌≤◌, length, is_err, Err, sym, refl, ap, ◌∙◌, arith}
 use Rattle.std.proofs.lemmas.Result.{err_from_is_err_and}
-use Rattle.sink.specs.Stacks.{front, node_answer}
+use Rattle.sink.specs.Stacks.{node_answer}
 use Rattle.outcome.specs.declared.Halt.TheVariants.{Sink}
 use Rattle.reading.specs.Means.{reads}
 use Rattle.reading.proofs.Cells.{front_under, pushed_length}

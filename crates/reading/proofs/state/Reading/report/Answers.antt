@@ -1,4 +1,4 @@
-use Rattle.std.proofs.Common.{◌≡◌, refl, ap}
+use Rattle.std.proofs.Common.{refl, ap}
 use Rattle.outcome.specs.declared.Call.TheVariants.{Report as Tell}
 use Rattle.reading.proofs.Making.{told_so, kept}
 use Rattle.reading.proofs.state.Reading.report.Goals as goal

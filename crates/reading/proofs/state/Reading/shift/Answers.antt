@@ -1,14 +1,12 @@
-use Rattle.std.proofs.Common.{◌≡◌, ◌<◌, ◌≤◌, [], ◌∷◌, ◌++◌, length, is_err, Err, sym, refl, ap, ◌∙◌, arith}
+use Rattle.std.proofs.Common.{is_err, Err, sym, refl, ap, ◌∙◌, arith}
 use Rattle.std.proofs.lemmas.Result.{err_from_is_err_and}
-use Rattle.source.specs.Streams.{dropped}
-use Rattle.sink.specs.Stacks.{leaf_answer, leaf_after}
+use Rattle.sink.specs.Stacks.{leaf_answer}
 use Rattle.outcome.specs.declared.Halt.TheVariants.{Sink}
-use Rattle.machine.specs.Reading.{shifting, stepped}
+use Rattle.machine.specs.Reading.{shifting}
 use Rattle.reading.specs.Means.{reads}
 use Rattle.reading.specs.Steps.{listed}
 use Rattle.reading.proofs.Cells.{pushed_length}
 use Rattle.reading.proofs.Rooms.{no_cell, refused, taken, stepped_so, near_so, stays, halted_so}
-use Rattle.reading.proofs.state.Reading.shift.Given as given
 use Rattle.reading.proofs.state.Reading.shift.Goals as goal
 
 pub returns-then-self-eq-CELLS : goal.returns-then-self-eq-CELLS

@@ -1,4 +1,4 @@
-use Rattle.std.proofs.Common.{◌≡◌, sym, refl, ap, ◌∙◌}
+use Rattle.std.proofs.Common.{sym, refl, ap}
 use Rattle.outcome.specs.declared.Call.TheVariants.{Stop}
 use Rattle.machine.specs.Calls.{or_declined}
 use Rattle.reading.specs.Means.{reads}

@@ -1,4 +1,4 @@
-use Rattle.std.proofs.Common.{◌≡◌, ◌+◌, ◌<◌, ◌≤◌, Ok, sym, refl, ap, ◌∙◌, arith, le-leb}
+use Rattle.std.proofs.Common.{◌+◌, ◌<◌, ◌≤◌, Ok, sym, ap, ◌∙◌, arith, le-leb}
 use borrow.Author.Tests.{lt-leb}
 use Rattle.outcome.specs.declared.Call.TheVariants.{Turn}
 use Rattle.machine.specs.Reading.{State, most_steps, go_on, spend}
