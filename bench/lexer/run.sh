@@ -3,12 +3,12 @@
 # Wants gcc, valgrind and python3 beside the toolchain.
 set -eu
 cd "$(dirname "$0")/../.."
-rt staticlib lexer_c > /dev/null
-out=target/bench/lexer
+(cd crates/lexer_c && rt lib > /dev/null)
+out=out/bench/lexer
 mkdir -p "$out"
 gcc -O2 -g -c bench/lexer/lexer.c -o "$out/lexer.o"
 gcc -O2 -g -c bench/lexer/main.c -o "$out/main.o"
-gcc "$out/main.o" "$out/lexer.o" target/staticlib/liblexer_c.a -o "$out/bench"
+gcc "$out/main.o" "$out/lexer.o" crates/lexer_c/out/liblexer_c.a -o "$out/bench"
 python3 bench/lexer/plans.py "$out"
 printf '%-12s %5s %22s %22s %6s\n' plan peeks library/byte C/byte ratio
 for plan in text words numbers marks digits large; do

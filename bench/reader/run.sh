@@ -3,7 +3,7 @@
 # minutes. Wants bison, gcc, valgrind and python3.
 set -eu
 cd "$(dirname "$0")/../.."
-out=target/bench/reader
+out=out/bench/reader
 mkdir -p "$out"
 bison -o "$out/items.c" bench/reader/items.y
 gcc -O2 -g -Ibench/lexer -c "$out/items.c" -o "$out/items.o"

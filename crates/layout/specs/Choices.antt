@@ -1,5 +1,5 @@
 -- Options, tests over numbers below a bound, and the least number at which something is found.
-use Rattle.std.specs.Prelude.{ℕ, zero, suc, Bool, true, false, cond, not, ◌&&◌, ◌||◌, List, [], ◌∷◌, Some, None, Option, nat_lt}
+use Rattle.std.specs.Prelude.{ℕ, zero, suc, Bool, true, false, cond, ◌&&◌, ◌||◌, List, [], ◌∷◌, Some, None, Option, nat_lt}
 
 abbrev pub or_else : {X : Type 0} → Option X → Option X → Option X
 or_else None y = y

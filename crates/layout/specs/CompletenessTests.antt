@@ -2,9 +2,7 @@
 use Rattle.std.specs.Prelude.{ℕ, ◌+◌, Bool, true, false, cond, ◌&&◌, List, [], ◌∷◌, length, drop, ◌==◌}
 use Rattle.syntax.specs.declared.Symbol.{Symbol}
 use Rattle.syntax.specs.declared.Symbol.TheVariants.{Terminal, Nonterminal}
-use Rattle.syntax.specs.Grammar.{Rule, Grammar, terminals, productions}
-use Rattle.table.specs.declared.Action.{Action}
-use Rattle.table.specs.declared.Action.TheVariants.{Shift, Reduce, Accept, Reject}
+use Rattle.syntax.specs.Grammar.{Grammar, terminals, productions}
 use Rattle.table.specs.Automaton.{Automaton, decide}
 use Rattle.table.specs.Hints.{Set, Hints, added, right_side}
 use Rattle.table.specs.Completeness.{nullable_all, first_of, wanted}

@@ -1,5 +1,5 @@
 -- The table and the hints that a sheet holds: each question is answered by the record with its key.
-use Rattle.std.specs.Prelude.{ℕ, Bool, false, cond, List, [], Some, None, Option, nat_eq}
+use Rattle.std.specs.Prelude.{ℕ, false, cond, [], Some, None, Option, nat_eq}
 use Rattle.table.specs.declared.Action.TheVariants.{Reject}
 use Rattle.table.specs.Automaton.{Automaton}
 use Rattle.table.specs.Hints.{Hints, deepest}

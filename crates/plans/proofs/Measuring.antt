@@ -1,5 +1,5 @@
 -- A plan that was read into totals.
-use Rattle.std.proofs.Common.{◌≡◌, ℕ, ◌-◌, List, [], ◌∷◌, length, take, Ok, Err, Result, sym, refl, ap, ◌∙◌, subst, arith}
+use Rattle.std.proofs.Common.{◌≡◌, ℕ, ◌-◌, List, [], ◌∷◌, length, take, Ok, Err, Result, refl, ap, ◌∙◌, subst, arith}
 use Rattle.table.specs.declared.Table as tables
 use Rattle.streams.specs.declared.Keyword.{Keyword}
 use Rattle.sink.specs.declared.Sink as sinks
@@ -18,7 +18,7 @@ use Rattle.pile.specs.Piles.{piled}
 use Rattle.reading.specs.Promises.{Kept as Promise}
 use Rattle.plans.specs.declared.PlanRead.{PlanRead}
 use Rattle.plans.specs.Plans.{plan_run, ReadBy, comes_of}
-use Rattle.plans.specs.Measured.{totals_run, MeasuredAs, measures_as}
+use Rattle.plans.specs.Measured.{totals_run, measures_as}
 
 module _ {T V : Type 0} (table : tables.Ghosts T) (m : measures.Ghosts V)
     (associative : (x y z : V) → m.join (m.join x y) z ≡ m.join x (m.join y z))

@@ -4,7 +4,6 @@ use Rattle.table.specs.declared.Table as tables
 use Rattle.sink.specs.declared.Sink as sinks
 use Rattle.streams.specs.declared.Keyword.{Keyword}
 use Rattle.outcome.specs.declared.Call.{Call}
-use Rattle.outcome.specs.declared.Report.{Report}
 use Rattle.machine.specs.Calls.{report as told}
 use Rattle.machine.specs.Runs.{Run, after}
 use Rattle.pile.specs.declared.PileRefusal.{PileRefusal}

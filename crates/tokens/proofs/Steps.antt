@@ -1,5 +1,5 @@
 -- One token more of a listing.
-use Rattle.std.proofs.Common.{◌≡◌, ℕ, List, [], ◌∷◌, ◌++◌, Some, Ok, Err, sym, ap, ◌∙◌, append_assoc, arith}
+use Rattle.std.proofs.Common.{◌≡◌, ℕ, List, [], ◌∷◌, ◌++◌, Some, Ok, sym, ap, ◌∙◌, append_assoc, arith}
 use Rattle.syntax.specs.declared.Token.{Token}
 use Rattle.source.specs.Streams.{Ending, end, fault, Stream, next, rest, answer, dropped}
 
