@@ -1,8 +1,8 @@
 -- The tests of a well-formed sheet, which go over its records, are those of its table and hints.
-use Rattle.std.proofs.Common.{◌≡◌, ℕ, zero, suc, ◌<◌, Bool, true, false, cond, ◌&&◌, T, eqb, List, [], ◌∷◌, drop, Some, None, Option, sym, refl, ap, ap₂, subst, lit<, eqb→eq}
+use Rattle.std.proofs.Common.{◌≡◌, ℕ, zero, suc, ◌<◌, Bool, true, false, ◌&&◌, T, eqb, List, [], ◌∷◌, drop, Some, None, Option, sym, refl, ap, ap₂, subst, lit<, eqb→eq}
 use Rattle.syntax.specs.declared.Symbol.{Symbol}
 use Rattle.syntax.specs.declared.Symbol.TheVariants.{Terminal, Nonterminal}
-use Rattle.syntax.specs.Grammar.{Rule, Grammar, terminals}
+use Rattle.syntax.specs.Grammar.{Rule, terminals}
 use Rattle.table.specs.Automaton.{Automaton}
 use Rattle.table.specs.Hints.{Set, Hints, right_side}
 use Rattle.table.specs.Completeness.{nullable_all, first_of, wanted, SomeRight}
@@ -13,7 +13,7 @@ use Rattle.layout.specs.Meaning.{automaton, hints}
 use Rattle.layout.specs.Opening.{has_letter}
 use Rattle.layout.specs.Checking.{subset, same_test, is_rule_of}
 use Rattle.layout.specs.Checking as by_record
-use Rattle.layout.specs.CompletenessTests.{some_right, each_rule, equations_hold, items_closed, one_dot_on, item_complete, item_at}
+use Rattle.layout.specs.CompletenessTests.{some_right, each_rule, equations_hold, one_dot_on, item_complete, item_at}
 use Rattle.wellformed.specs.Formed.{Formed}
 use Rattle.wellformed.proofs.Tests.{eq_T, T_and, and_T}
 use Rattle.wellformed.proofs.Says.{Says, if_so, all_below, one_below}

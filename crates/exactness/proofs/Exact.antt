@@ -1,6 +1,5 @@
 -- The verdict is none exactly of the sheets that meet all conditions, and these hold valid tables.
-use Rattle.std.proofs.Common.{◌≡◌, ℕ, ◌+◌, ◌<◌, ◌≤◌, Bool, false, cond, T, ltb, List, is_some, Some, None, Option, sym, refl, ap, arith, lit≤}
-use Rattle.std.proofs.lemmas.Bool.{false≢true}
+use Rattle.std.proofs.Common.{◌≡◌, ℕ, ◌+◌, ◌<◌, ◌≤◌, Bool, false, cond, T, ltb, List, is_some, None, ap, arith, lit≤}
 use Rattle.syntax.specs.Grammar.{terminals}
 use Rattle.table.specs.Lawful.{narrow}
 use Rattle.table.specs.Validity.{Valid}

@@ -1,11 +1,11 @@
 -- What a record of a sorted sheet keeps: the symbols that it counts are all in its payload.
-use Rattle.std.proofs.Common.{◌≡◌, ℕ, zero, suc, ◌+◌, ◌<◌, ◌≤◌, Bool, true, cond, ◌&&◌, ltb, List, Some, None, Option, sym, refl, ap, ◌∙◌, arith}
+use Rattle.std.proofs.Common.{◌≡◌, ℕ, zero, suc, ◌+◌, ◌<◌, ◌≤◌, Bool, true, cond, ◌&&◌, ltb, List, Some, None, sym, refl, ap, ◌∙◌, arith}
 use Rattle.std.proofs.lemmas.Bool.Decides.{nat_tests}
 use Rattle.syntax.specs.declared.Symbol.{Symbol}
 use Rattle.layout.specs.declared.Letter.{Letter}
 use Rattle.layout.specs.declared.Letter.TheVariants.{A, D, G, I, K, N, P, S}
 use Rattle.layout.specs.Choices.{given, below, every}
-use Rattle.layout.specs.Records.{sheet, sixteen, count, record_at, at, byte, letter, symbol, symbols}
+use Rattle.layout.specs.Records.{sheet, sixteen, count, record_at, at, letter, symbol, symbols}
 use Rattle.wellformed.specs.Formed.{InRangeOf, Sorted}
 use Rattle.wellformed.proofs.Rows.{range_at, code_of}
 use Rattle.wellformed.proofs.Loops.{every_gather}

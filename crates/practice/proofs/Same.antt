@@ -1,8 +1,6 @@
 -- The table that the practice sheet holds is the practice table.
-use Rattle.std.proofs.Common.{◌≡◌, ℕ, zero, suc, ◌<◌, ◌≤◌, Bool, ◌&&◌, T, eqb, ltb, ◌⊎◌, None, sym, refl, ap, subst, inl, inr, arith, ltb→lt}
-use mathlib.Core.Path.{fun_ext}
+use Rattle.std.proofs.Common.{◌≡◌, ℕ, zero, suc, ◌<◌, ◌≤◌, Bool, ◌&&◌, T, eqb, ltb, ◌⊎◌, None, refl, ap, subst, inl, inr, arith, ltb→lt}
 use Rattle.table.specs.declared.Action.TheVariants.{Reject}
-use Rattle.table.specs.Automaton.{Automaton}
 use Rattle.layout.specs.declared.Letter.{Letter}
 use Rattle.layout.specs.declared.Letter.TheVariants.{A, D, G, P, S}
 use Rattle.layout.specs.Choices.{mapped, given, first, gather, below, implies}

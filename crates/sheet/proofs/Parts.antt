@@ -1,8 +1,7 @@
 -- Symbols and numbers of records as the table and the hints have them.
-use Rattle.std.proofs.Common.{◌≡◌, ℕ, ◌+◌, ◌<◌, ◌≤◌, Bool, true, cond, ◌&&◌, ltb, List, [], length, Some, None, Option, sym, refl, ap, ◌∙◌, subst, arith}
+use Rattle.std.proofs.Common.{◌≡◌, ℕ, ◌+◌, ◌≤◌, cond, ◌&&◌, ltb, List, [], length, Some, None, sym, ap, ◌∙◌, arith}
 use Rattle.std.proofs.lemmas.Bool.Decides.{nat_tests}
 use Rattle.records.specs.Parts.{symbol_in}
-use Rattle.syntax.specs.declared.Symbol.{Symbol}
 use Rattle.table.specs.Automaton.{nth, symbol_at}
 use Rattle.layout.specs.declared.Letter.TheVariants.{P, S}
 use Rattle.layout.specs.Choices.{given, mapped}

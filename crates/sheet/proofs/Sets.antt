@@ -1,5 +1,5 @@
 -- Sets that are read, as the hints have them.
-use Rattle.std.proofs.Common.{◌≡◌, ℕ, Bool, false, List, Some, None, Option, sym, refl, ap, ◌∙◌, subst}
+use Rattle.std.proofs.Common.{◌≡◌, ℕ, false, List, Some, None, Option, sym, ap, ◌∙◌, subst}
 use Rattle.records.specs.declared.Record.{Record}
 use Rattle.table.specs.Automaton.{nth}
 use Rattle.table.specs.Hints.{Set}

@@ -1,9 +1,9 @@
 -- What rows of passes one behind the other tell.
-use Rattle.std.proofs.Common.{◌≡◌, ℕ, false, List, [], ◌∷◌, ◌++◌, is_some, Some, None, Ok, Err, Option, Result, sym, refl, ap, ◌∙◌, subst}
+use Rattle.std.proofs.Common.{◌≡◌, ℕ, false, List, [], ◌∷◌, ◌++◌, is_some, Some, None, Ok, Err, Option, Result, sym, refl, ap, ◌∙◌}
 use Rattle.layout.specs.declared.Refusal.{Refusal}
 use Rattle.layout.specs.Refusals.{answered}
 use Rattle.layout.specs.Choices.{or_else, first}
-use Rattle.layout.specs.Records.{Sheet, sheet}
+use Rattle.layout.specs.Records.{Sheet}
 use Rattle.layout.specs.Passes.{Pass, told}
 use Rattle.layout.specs.Opening.{names_found, sense_found, sorting_passes, naming_passes, sorting, opening}
 use Rattle.wellformed.proofs.Told.{ok_none, or_itself}

@@ -1,5 +1,5 @@
 -- The members of a set as the bits of its number.
-use Rattle.std.proofs.Common.{◌≡◌, ℕ, ◌*◌, ◌/◌, ◌%◌, ◌^◌, ◌<◌, ◌≤◌, Bool, true, false, ◌&&◌, T, eqb, ltb, sym, refl, ap, subst, ⊎_elim, div-lt_iff_lt-mul, one-mul, arith, eqb→eq, pow_pos}
+use Rattle.std.proofs.Common.{◌≡◌, ℕ, ◌*◌, ◌/◌, ◌%◌, ◌^◌, ◌<◌, ◌≤◌, true, false, T, eqb, ltb, sym, subst, ⊎_elim, div-lt_iff_lt-mul, one-mul, arith, eqb→eq, pow_pos}
 use native.Mathlib.Nat.{pow-le-pow_right}
 use Rattle.std.proofs.lemmas.Bool.{cases_lt, cases_Bool}
 use Rattle.layout.specs.Records.{Format, member}

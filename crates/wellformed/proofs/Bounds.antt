@@ -1,6 +1,5 @@
 -- The hints of a well-formed sheet fit into numbers of 64 bits, and a past set is found by its key.
-use Rattle.std.proofs.Common.{◌≡◌, ℕ, suc, ◌-◌, ◌<◌, ◌≤◌, false, T, ◌⊎◌, List, [], length, is_some, Some, None, Option, sym, refl, ap, ◌∙◌, subst, inl, inr, arith}
-use Rattle.syntax.specs.declared.Symbol.{Symbol}
+use Rattle.std.proofs.Common.{◌≡◌, ℕ, suc, ◌-◌, ◌<◌, ◌≤◌, false, T, ◌⊎◌, List, [], length, is_some, Some, None, Option, refl, ap, subst, inl, inr, arith}
 use Rattle.syntax.specs.Grammar.{terminals, Present}
 use Rattle.table.specs.Automaton.{nth}
 use Rattle.table.specs.Hints.{Set, ◌∈◌, deepest}

@@ -1,5 +1,5 @@
 -- Opening refuses nothing exactly of the sheets that are well-formed.
-use Rattle.std.proofs.Common.{◌≡◌, ℕ, zero, suc, ◌+◌, ◌-◌, ◌^◌, ◌<◌, ◌≤◌, Bool, true, false, cond, ◌&&◌, ◌||◌, T, eqb, ltb, leb, ◌⊎◌, List, length, is_some, Some, None, Option, sym, refl, ap, ◌∙◌, subst, inl, inr, ⊎_elim, arith, lit<, eqb→eq, ltb→lt, lt→ltb}
+use Rattle.std.proofs.Common.{◌≡◌, ℕ, zero, suc, ◌+◌, ◌-◌, ◌^◌, ◌<◌, ◌≤◌, Bool, true, false, cond, T, ltb, ◌⊎◌, List, length, is_some, Some, None, Option, sym, refl, ap, ◌∙◌, subst, inl, inr, ⊎_elim, arith, lit<, ltb→lt, lt→ltb}
 use Rattle.std.proofs.lemmas.Bool.{cases_lt, false≢true}
 use Rattle.syntax.specs.declared.Symbol.{Symbol}
 use Rattle.syntax.specs.declared.Symbol.TheVariants.{Terminal, Nonterminal}
@@ -10,13 +10,13 @@ use Rattle.table.specs.Hints.{deepest, added}
 use Rattle.layout.specs.declared.Letter.{Letter}
 use Rattle.layout.specs.declared.Letter.TheVariants.{A, D, G, I, K, N, P, S}
 use Rattle.layout.specs.declared.Refusal.TheVariants.{Length, Order, Range, Absent, Contradiction}
-use Rattle.layout.specs.Choices.{present, unless, first, below, some_below}
+use Rattle.layout.specs.Choices.{present, first, some_below}
 use Rattle.layout.specs.Records.{Format, Sheet, sheet, count, record_at, at, byte, code, key, payload, set_in}
 use Rattle.layout.specs.Records.{no_symbol, maybe_symbol, symbols, action_in}
 use Rattle.layout.specs.Meaning.{placed, automaton}
 use Rattle.layout.specs.Opening.{most_bytes, length_fits, in_order, in_range, in_range_of, unused, symbol_byte}
 use Rattle.layout.specs.Opening.{symbol_bytes, action_bytes, has_symbol, has_target, no_gap, names_known, names_fit}
-use Rattle.layout.specs.Opening.{has_letter, has_all_kinds, action_makes_sense, acts_in, right_length, makes_sense_as}
+use Rattle.layout.specs.Opening.{has_letter, has_all_kinds, action_makes_sense, right_length, makes_sense_as}
 use Rattle.layout.specs.Opening.{makes_sense, length_refused, record_refused, sorting, sorting_passes, naming_passes}
 use Rattle.layout.specs.Opening.{opening, opening_passes}
 use Rattle.wellformed.specs.Formed.{LengthFits, Unused, SymbolByte, SymbolBytes, ActionBytes, InRangeOf, Has}

@@ -1,5 +1,5 @@
 -- A well-formed sheet holds a lawful table.
-use Rattle.std.proofs.Common.{◌≡◌, ℕ, zero, suc, ◌+◌, ◌-◌, ◌<◌, ◌≤◌, Bool, true, false, cond, T, eqb, ltb, ◌⊎◌, List, [], ◌∷◌, length, is_some, Some, None, Option, sym, refl, ap, ◌∙◌, subst, subst₂, inl, inr, ⊎_elim, arith}
+use Rattle.std.proofs.Common.{◌≡◌, ℕ, zero, suc, ◌-◌, ◌<◌, ◌≤◌, Bool, true, false, cond, T, eqb, ◌⊎◌, List, length, is_some, Some, None, Option, sym, refl, ap, ◌∙◌, subst, subst₂, inl, inr, ⊎_elim, arith}
 use Rattle.std.proofs.lemmas.Bool.Decides.{nat_tests}
 use Rattle.std.proofs.lemmas.Bool.{cases_eq}
 use Rattle.syntax.specs.declared.Symbol.{Symbol}
@@ -12,10 +12,10 @@ use Rattle.table.specs.Lawful.{narrow, State, RuleInRange, Lawful}
 use Rattle.layout.specs.declared.Letter.{Letter}
 use Rattle.layout.specs.declared.Letter.TheVariants.{A, D, G, P, S}
 use Rattle.layout.specs.Choices.{given, mapped, gather}
-use Rattle.layout.specs.Records.{Sheet, sheet, count, record_at, at, byte, code, no_symbol, symbol, maybe_symbol}
-use Rattle.layout.specs.Records.{symbols, rule_in, action_in}
+use Rattle.layout.specs.Records.{Sheet, sheet, record_at, byte, no_symbol, symbol, maybe_symbol}
+use Rattle.layout.specs.Records.{rule_in, action_in}
 use Rattle.layout.specs.Meaning.{placed, automaton}
-use Rattle.wellformed.specs.Formed.{SymbolByte, SymbolBytes, Has, NoGap, NamesKnown, HasTarget, ActionMakesSense}
+use Rattle.wellformed.specs.Formed.{SymbolByte, Has, NoGap, NamesKnown, HasTarget, ActionMakesSense}
 use Rattle.wellformed.specs.Formed.{MakesSenseAs, Formed, FormedIsLawful}
 use Rattle.wellformed.proofs.Tests.{none_some, some_same, mapped_some}
 use Rattle.wellformed.proofs.Formed.{formed_of}

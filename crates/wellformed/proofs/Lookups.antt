@@ -1,5 +1,5 @@
 -- What the look-ups of an opening find in a sorted sheet.
-use Rattle.std.proofs.Common.{◌≡◌, ℕ, ◌+◌, ◌*◌, ◌<◌, ◌≤◌, Bool, true, false, cond, ◌&&◌, T, eqb, ltb, ◌⊎◌, List, length, Some, None, Option, sym, refl, ap, ◌∙◌, subst, inl, inr, ⊎_elim, arith, lit<, eqb→eq}
+use Rattle.std.proofs.Common.{◌≡◌, ℕ, ◌+◌, ◌*◌, ◌<◌, ◌≤◌, Bool, true, false, cond, T, eqb, ltb, ◌⊎◌, List, length, Some, None, Option, sym, refl, ap, ◌∙◌, subst, inl, inr, ⊎_elim, arith, lit<, eqb→eq}
 use Rattle.std.proofs.lemmas.Bool.{cases_lt, cases_Bool}
 use Rattle.syntax.specs.declared.Production.{Production}
 use Rattle.table.specs.Automaton.{nth, head, symbol_at}
@@ -13,7 +13,7 @@ use Rattle.layout.specs.Search.{position}
 use Rattle.layout.specs.Opening.{acts_in, right_length}
 use Rattle.wellformed.specs.Formed.{InRangeOf, Sorted}
 use Rattle.wellformed.proofs.Tests.{T_and, and_T, eq_T, T_some}
-use Rattle.wellformed.proofs.Rows.{Row, Known, known, second, third, range_at, row_of, row_number}
+use Rattle.wellformed.proofs.Rows.{Row, known, second, third, range_at, row_of, row_number}
 use Rattle.wellformed.proofs.Seeks.{Between, at_position, keys_rise}
 use Rattle.wellformed.proofs.Loops.{some_hit, nth_gather_or}
 use Rattle.wellformed.proofs.Lawful.{length_gather}

@@ -1,14 +1,14 @@
 -- Productions, states and nonterminals are numbered without a gap, so that their records stand at their numbers.
-use Rattle.std.proofs.Common.{◌≡◌, ℕ, zero, suc, ◌+◌, ◌-◌, ◌*◌, ◌<◌, ◌≤◌, ◌⊎◌, List, get_or, IfSome, Some, None, Option, sym, refl, ap, ◌∙◌, subst, inl, inr, ⊎_elim, arith, lit<}
+use Rattle.std.proofs.Common.{◌≡◌, ℕ, zero, suc, ◌+◌, ◌-◌, ◌*◌, ◌<◌, ◌≤◌, ◌⊎◌, List, get_or, IfSome, Some, None, Option, sym, refl, ◌∙◌, subst, inl, inr, ⊎_elim, arith, lit<}
 use Rattle.std.proofs.lemmas.Bool.{cases_lt, cases_eq}
 use Rattle.std.proofs.lemmas.Bool.Decides.{nat_tests}
 use Rattle.layout.specs.declared.Letter.{Letter}
 use Rattle.layout.specs.declared.Letter.TheVariants.{A, D, G, I, K, N, P, S}
 use Rattle.layout.specs.Records.{sixteen, sheet, count, record_at, at, byte, code, key_of, key}
 use Rattle.layout.specs.Meaning.{placed}
-use Rattle.layout.specs.Search.{position, start, starts, index_of, by_number}
+use Rattle.layout.specs.Search.{position, starts, index_of, by_number}
 use Rattle.wellformed.specs.Formed.{Has, NoGap, InRangeOf, Sorted, Formed}
-use Rattle.wellformed.proofs.Rows.{Row, Known, known, at_letter, range_at, row_of, row_number, placed_row}
+use Rattle.wellformed.proofs.Rows.{Row, known, at_letter, range_at, row_of, row_number, placed_row}
 use Rattle.wellformed.proofs.Rows.{none_placed}
 use Rattle.wellformed.proofs.Seeks.{at_position, letter_range, keys_rise}
 use Rattle.wellformed.proofs.Lookups.{digits}

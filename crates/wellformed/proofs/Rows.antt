@@ -1,14 +1,13 @@
 -- Records by their keys: in a well-formed sheet the record with a key is the one that is found.
-use Rattle.std.proofs.Common.{◌≡◌, ℕ, ◌+◌, ◌-◌, ◌*◌, ◌<◌, ◌≤◌, Bool, true, false, cond, ◌&&◌, T, eqb, ◌⊎◌, List, Some, None, Option, sym, refl, ap, ◌∙◌, subst, inl, inr, arith, lit<, eqb→eq}
-use Rattle.syntax.specs.Grammar.{Present}
+use Rattle.std.proofs.Common.{◌≡◌, ℕ, ◌<◌, Bool, true, false, cond, T, eqb, List, Some, None, Option, sym, refl, ap, ◌∙◌, subst, arith, lit<, eqb→eq}
 use Rattle.layout.specs.declared.Letter.{Letter}
 use Rattle.layout.specs.declared.Letter.TheVariants.{A, D, G, I, K, N, P, S}
-use Rattle.layout.specs.Choices.{given, first}
+use Rattle.layout.specs.Choices.{given}
 use Rattle.layout.specs.Records.{Format, Sheet, count, record_at, at, byte, code, letter, letter_of, key_of, key}
 use Rattle.layout.specs.Records.{has_key}
 use Rattle.layout.specs.Meaning.{placed}
 use Rattle.layout.specs.Opening.{by_letter}
-use Rattle.wellformed.specs.Formed.{Unused, InRangeOf, ByLetter, Sorted}
+use Rattle.wellformed.specs.Formed.{InRangeOf, ByLetter, Sorted}
 use Rattle.wellformed.proofs.Tests.{eq_T, some_same, none_some, T_and, and_T}
 use Rattle.wellformed.proofs.Says.{Says}
 use Rattle.wellformed.proofs.Firsts.{first_none, first_at, first_some}

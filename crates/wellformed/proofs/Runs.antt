@@ -1,5 +1,5 @@
 -- A run of things without a gap, as they are asked for one by one.
-use Rattle.std.proofs.Common.{◌≡◌, ℕ, zero, suc, ◌≤◌, List, [], ◌∷◌, length, Some, None, Option, sym, refl, ap, ◌∙◌, subst, arith}
+use Rattle.std.proofs.Common.{◌≡◌, ℕ, zero, suc, ◌≤◌, List, length, Some, None, Option, sym, refl, ◌∙◌, arith}
 use Rattle.syntax.specs.Grammar.{Present}
 use Rattle.table.specs.Automaton.{nth}
 use Rattle.layout.specs.Choices.{before, run}

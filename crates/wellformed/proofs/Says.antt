@@ -1,5 +1,5 @@
 -- What a test says: a proposition that holds exactly when the test passes.
-use Rattle.std.proofs.Common.{◌≡◌, ℕ, ◌<◌, ◌≤◌, Bool, true, false, cond, not, ◌&&◌, ◌||◌, T, eqb, ltb, leb, ◌⊎◌, List, [], ◌∷◌, Some, None, Option, sym, ap, subst, inl, inr, le→leb, eqb→eq, ltb→lt, lt→ltb, leb→le, T_not}
+use Rattle.std.proofs.Common.{◌≡◌, ℕ, ◌<◌, ◌≤◌, Bool, true, false, cond, not, ◌&&◌, ◌||◌, T, eqb, ltb, leb, ◌⊎◌, List, [], ◌∷◌, Some, None, Option, ap, subst, inl, inr, le→leb, eqb→eq, ltb→lt, lt→ltb, leb→le, T_not}
 use lib.Dec.{not_T, eqb_refl}
 use Rattle.syntax.specs.declared.Symbol.{Symbol}
 use Rattle.syntax.specs.declared.Symbol.TheVariants.{Terminal, Nonterminal}
@@ -7,7 +7,7 @@ use Rattle.syntax.specs.Grammar.{Every, Present}
 use Rattle.layout.specs.Choices.{given, present, implies, below, some_below, every}
 use Rattle.layout.specs.Opening.{same_symbol}
 use Rattle.wellformed.specs.Formed.{IfAny}
-use Rattle.wellformed.proofs.Tests.{eq_T, some_same, T_and, and_T, T_or, or_T, T_implies, implies_T, T_below, below_T}
+use Rattle.wellformed.proofs.Tests.{eq_T, T_and, and_T, T_or, or_T, T_implies, implies_T, T_below, below_T}
 use Rattle.wellformed.proofs.Tests.{T_some, some_T, T_present, present_T, T_given, given_T}
 
 pub record Says (b : Bool) (Q : Type 0) : Type 0 where

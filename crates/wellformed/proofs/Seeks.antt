@@ -1,13 +1,12 @@
 -- Records in key order: where a key stands, and what a search for it finds.
-use Rattle.std.proofs.Common.{◌≡◌, ℕ, zero, suc, ◌+◌, ◌-◌, ◌*◌, ◌<◌, ◌≤◌, Bool, true, false, ◌&&◌, T, eqb, leb, ◌⊎◌, List, get_or, Some, None, Option, sym, refl, ap, ◌∙◌, subst, inl, inr, ⊎_elim, arith}
+use Rattle.std.proofs.Common.{◌≡◌, ℕ, ◌+◌, ◌<◌, ◌≤◌, true, false, T, leb, List, get_or, Some, None, sym, ◌∙◌, subst, ⊎_elim, arith}
 use Rattle.std.proofs.lemmas.Bool.{cases_order, cases_lt}
 use Rattle.std.proofs.lemmas.Bool.Decides.{nat_tests}
 use Rattle.layout.specs.declared.Letter.{Letter}
 use Rattle.layout.specs.declared.Letter.TheVariants.{A, D, G, I, K, N, P, S}
-use Rattle.layout.specs.Choices.{least}
-use Rattle.layout.specs.Records.{Sheet, count, record_at, byte, code, key_of, key, has_key}
+use Rattle.layout.specs.Records.{Sheet, count, record_at, code, key_of, key, has_key}
 use Rattle.layout.specs.Meaning.{placed}
-use Rattle.layout.specs.Search.{position, start, starts, index_of}
+use Rattle.layout.specs.Search.{position, starts, index_of}
 use Rattle.wellformed.specs.Formed.{Sorted}
 use Rattle.wellformed.proofs.Firsts.{LeastAt, least_at, least_is}
 use Rattle.wellformed.proofs.Rows.{Row, key_row, row_key, row_number, placed_row, none_placed}

@@ -1,7 +1,7 @@
 -- What is told is the refusal of the first pass that fails, at its least place.
-use Rattle.std.proofs.Common.{◌≡◌, ℕ, ◌+◌, ◌<◌, cond, ltb, ◌⊎◌, ◌↔◌, List, [], ◌∷◌, Some, None, Ok, Err, Option, sym, refl, ap, ◌∙◌, subst, inl, inr, arith}
+use Rattle.std.proofs.Common.{◌≡◌, ℕ, ◌+◌, ◌<◌, ◌⊎◌, List, [], ◌∷◌, Some, None, Ok, Err, Option, sym, refl, ap, ◌∙◌, subst, inl, inr, arith}
 use Rattle.layout.specs.declared.Refusal.{Refusal}
-use Rattle.layout.specs.declared.Refusal.TheVariants.{Length, Order, Range, Absent, Contradiction}
+use Rattle.layout.specs.declared.Refusal.TheVariants.{Order, Range}
 use Rattle.layout.specs.Refusals.{place, answered}
 use Rattle.layout.specs.Choices.{or_else, unless, first}
 use Rattle.layout.specs.Records.{Sheet, record_at, count}

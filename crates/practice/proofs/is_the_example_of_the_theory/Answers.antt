@@ -1,4 +1,3 @@
-use Rattle.std.proofs.Common.{rules}
 use Rattle.practice.proofs.is_the_example_of_the_theory.Goals as goal
 use Rattle.practice.proofs.Same.{same_table}
 

@@ -1,7 +1,6 @@
 use Rattle.std.proofs.Common.{Some, sym, ap, ◌∙◌}
-use Rattle.layout.specs.Records.{sheet}
 use Rattle.wellformed.proofs.Formed.{formed_of}
-use Rattle.sheet.specs.Contents.{contents, sheet_in}
+use Rattle.sheet.specs.Contents.{sheet_in}
 use Rattle.checker.proofs.Steps.{item_judged, nonterminal_judged}
 use Rattle.checker.proofs.conditions.is_complete.Goals as goal
 

@@ -1,4 +1,4 @@
-use Rattle.std.proofs.Common.{◌≡◌, ℕ, ◌+◌, ◌<◌, Some, None, sym, ◌∙◌, subst, arith}
+use Rattle.std.proofs.Common.{◌≡◌, ℕ, ◌+◌, ◌<◌, None, sym, ◌∙◌, subst, arith}
 use Rattle.layout.specs.declared.Refusal.TheVariants.{Absent}
 use Rattle.layout.specs.Choices.{first}
 use Rattle.layout.specs.Records.{sheet, count}

@@ -1,4 +1,4 @@
-use Rattle.std.proofs.Common.{◌≡◌, sym, ap, ◌∙◌, subst}
+use Rattle.std.proofs.Common.{sym, ap, ◌∙◌, subst}
 use Rattle.records.specs.declared.Record.{Record}
 use Rattle.layout.specs.Records.{sheet, letter}
 use Rattle.wellformed.proofs.Formed.{sorted_of}

@@ -1,4 +1,4 @@
-use Rattle.std.proofs.Common.{◌≡◌, ℕ, true, sym, ap, ◌∙◌, subst, arith}
+use Rattle.std.proofs.Common.{◌≡◌, ℕ, true, sym, ◌∙◌, subst, arith}
 use Rattle.layout.specs.Choices.{given, below}
 use Rattle.layout.specs.Records.{sheet, at}
 use Rattle.layout.specs.Opening.{has_symbol}

@@ -1,4 +1,3 @@
-use Rattle.std.proofs.Common.{rules}
 use Rattle.practice.proofs.PracticeTableCheckedTable.validity.Goals as goal
 use Rattle.layout.specs.Practice.{practice_bytes}
 use Rattle.exactness.proofs.Exact.{valid_of}

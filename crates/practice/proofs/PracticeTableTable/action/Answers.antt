@@ -1,4 +1,3 @@
-use Rattle.std.proofs.Common.{rules}
 use Rattle.practice.proofs.PracticeTableTable.action.Goals as goal
 use Rattle.practice.proofs.Dense.{action_at, no_action}
 

@@ -1,4 +1,3 @@
-use Rattle.std.proofs.Common.{rules}
 use Rattle.practice.proofs.PracticeTableTable.default_reduction.Goals as goal
 use Rattle.practice.proofs.Dense.{default_at, no_default}
 

@@ -1,4 +1,3 @@
-use Rattle.std.proofs.Common.{rules}
 use Rattle.practice.proofs.PracticeTableTable.goto.Goals as goal
 use Rattle.practice.proofs.Dense.{goto_at, no_goto}
 

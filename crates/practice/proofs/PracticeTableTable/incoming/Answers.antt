@@ -1,4 +1,3 @@
-use Rattle.std.proofs.Common.{rules}
 use Rattle.practice.proofs.PracticeTableTable.incoming.Goals as goal
 use Rattle.practice.proofs.Dense.{incoming_at, no_incoming}
 

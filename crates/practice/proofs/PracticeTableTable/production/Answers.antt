@@ -1,4 +1,3 @@
-use Rattle.std.proofs.Common.{rules}
 use Rattle.practice.proofs.PracticeTableTable.production.Goals as goal
 use Rattle.practice.proofs.Dense.{production_at, no_production}
 

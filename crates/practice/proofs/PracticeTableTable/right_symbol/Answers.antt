@@ -1,4 +1,3 @@
-use Rattle.std.proofs.Common.{rules}
 use Rattle.practice.proofs.PracticeTableTable.right_symbol.Goals as goal
 use Rattle.practice.proofs.Dense.{right_at, no_right}
 

@@ -1,4 +1,4 @@
-use Rattle.std.proofs.Common.{◌≡◌, sym, subst, arith, rules}
+use Rattle.std.proofs.Common.{◌≡◌, sym, subst, arith}
 use Rattle.layout.specs.Records.{sheet}
 use Rattle.wellformed.proofs.Seeks.{Between, position_is}
 use Rattle.wellformed.proofs.Formed.{few_records}

@@ -1,5 +1,4 @@
 use Rattle.std.proofs.Common.{arith}
-use Rattle.layout.specs.Records.{sheet}
 use Rattle.wellformed.proofs.Seeks.{at_position}
 use Rattle.wellformed.proofs.Formed.{few_records}
 use Rattle.sorted.proofs.lookup.start.Goals as goal

@@ -1,4 +1,4 @@
-use Rattle.std.proofs.Common.{◌≡◌, sym, refl, arith}
+use Rattle.std.proofs.Common.{sym, refl, arith}
 use Rattle.wellformed.proofs.Loops.{first_start, unless_fails, unless_passes, refuses_at, refuses_nothing}
 use Rattle.wellformed.proofs.Firsts.{first_more}
 use Rattle.sorted.proofs.sorting.check_length.Goals as goal

@@ -1,4 +1,4 @@
-use Rattle.std.proofs.Common.{◌≡◌, Bool, sym, ap, ◌∙◌, arith}
+use Rattle.std.proofs.Common.{Bool, sym, ap, ◌∙◌, arith}
 use Rattle.records.specs.declared.Record.{Record}
 use Rattle.layout.specs.Records.{sixteen, count}
 use Rattle.layout.specs.Opening.{in_range}

@@ -1,4 +1,4 @@
-use Rattle.std.proofs.Common.{◌≡◌, sym, ap, ◌∙◌}
+use Rattle.std.proofs.Common.{sym, ap, ◌∙◌}
 use Rattle.layout.specs.Records.{sheet, at}
 use Rattle.wellformed.proofs.Tests.{mapped_some}
 use Rattle.sorted.specs.Found.{taken}

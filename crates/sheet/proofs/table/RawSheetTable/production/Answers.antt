@@ -1,4 +1,4 @@
-use Rattle.std.proofs.Common.{◌≡◌, Some, Option, sym, ap, ◌∙◌}
+use Rattle.std.proofs.Common.{Some, Option, sym, ap, ◌∙◌}
 use Rattle.syntax.specs.declared.Production.{Production}
 use Rattle.layout.specs.Records.{sheet}
 use Rattle.records.specs.Parts.{head_in}

@@ -1,4 +1,4 @@
-use Rattle.std.proofs.Common.{◌≡◌, Option, sym, ap, ◌∙◌}
+use Rattle.std.proofs.Common.{Option, sym, ap, ◌∙◌}
 use Rattle.syntax.specs.declared.Symbol.{Symbol}
 use Rattle.layout.specs.Records.{sheet}
 use Rattle.records.specs.Parts.{symbol_in}

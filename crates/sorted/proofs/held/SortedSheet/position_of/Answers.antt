@@ -1,4 +1,4 @@
-use Rattle.std.proofs.Common.{◌≡◌, ◌<◌, ap, ◌∙◌, arith}
+use Rattle.std.proofs.Common.{◌≡◌, ap, ◌∙◌, arith}
 use Rattle.layout.specs.Records.{sheet, code, key_of}
 use Rattle.wellformed.proofs.Seeks.{search_range}
 use Rattle.wellformed.proofs.Formed.{sorted_of}
