@@ -2,10 +2,10 @@
 //! by record, and then the completeness conditions.
 #![tactic(auto)]
 
+mod as_table;
 mod checked;
 mod checking;
 mod conditions;
-mod table;
 
 pub use checked::CheckedSheet;
 pub use checking::verdict;

@@ -5,6 +5,6 @@ mod hints;
 mod numbered;
 mod opening;
 mod raw;
-mod table;
+mod as_table;
 
 pub use raw::RawSheet;

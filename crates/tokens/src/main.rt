@@ -4,14 +4,14 @@
 //! kinds, and at most N tokens pass.
 #![tactic(auto)]
 
+use crate::listed_plan::list_plan;
 use crate::listing::Listing;
-use crate::pile::list_plan;
 use crate::refusal::Refusal;
 use crate::request::Request;
 use std::{env, fs, io};
 
+mod listed_plan;
 mod listing;
-mod pile;
 mod refusal;
 mod request;
 

@@ -1,7 +1,7 @@
 use Rattle.std.proofs.Common.{◌≡◌, ◌++◌, Some, Ok, ap, ◌∙◌, ap₂}
 use Rattle.source.specs.Streams.{answer}
 use Rattle.tokens.proofs.Steps.{listed_more}
-use Rattle.tokens.proofs.pile.list.Goals as goal
+use Rattle.tokens.proofs.listed_plan.list.Goals as goal
 
 pub loop-token-preserved : goal.loop-token-preserved
 loop-token-preserved g c =

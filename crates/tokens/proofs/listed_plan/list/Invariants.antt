@@ -1,5 +1,5 @@
 use Rattle.std.proofs.Common.{◌≡◌, ◌++◌, length, vec_items}
-use Rattle.tokens.proofs.pile.list.Given as goal
+use Rattle.tokens.proofs.listed_plan.list.Given as goal
 
 -- the tokens so far and those to come are all tokens, and the ending stays
 abbrev pub invariant-loop-token : goal.invariant-loop-token

@@ -6,7 +6,7 @@ use Rattle.wellformed.proofs.Tests.{mapped_some}
 use Rattle.wellformed.proofs.Lookups.{head_at}
 use Rattle.sorted.specs.Found.{taken}
 use Rattle.sheet.specs.Contents.{contents}
-use Rattle.sheet.proofs.table.RawSheetTable.production.Goals as goal
+use Rattle.sheet.proofs.as_table.RawSheetTable.production.Goals as goal
 
 pub returns-in-Some : goal.returns-in-Some
 returns-in-Some c =

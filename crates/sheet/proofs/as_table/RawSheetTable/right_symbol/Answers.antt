@@ -7,7 +7,7 @@ use Rattle.wellformed.proofs.Formed.{formed_of}
 use Rattle.sorted.specs.Found.{taken}
 use Rattle.sheet.specs.Contents.{contents}
 use Rattle.sheet.proofs.Parts.{right_symbol_is}
-use Rattle.sheet.proofs.table.RawSheetTable.right_symbol.Goals as goal
+use Rattle.sheet.proofs.as_table.RawSheetTable.right_symbol.Goals as goal
 
 pub returns-in-Some : goal.returns-in-Some
 returns-in-Some c =
