@@ -174,7 +174,7 @@ def turned(path, table, own):
             note = re.sub(r"`[^`]*`", lambda k: turn(k[0]), note)
         text.append(turn(code) + note)
     clashes = {to: olds for to, olds in made.items() if len(olds) > 1 or to in seen}
-    whole = re.sub(r"(?m)^((?:ghost )?(?:pub )?use .*)$", lambda m: re.sub(rf"({NAME}) as \\1(?=[,}}])", r"\1", m[0]), "\n".join(text))
+    whole = re.sub(r"(?m)^((?:ghost )?(?:pub )?use .*)$", lambda m: re.sub(rf"({NAME}) as \1(?=[,}}])", r"\1", m[0]), "\n".join(text))
     return whole, clashes
 
 
