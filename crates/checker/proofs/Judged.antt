@@ -6,8 +6,8 @@ use Rattle.layout.specs.Choices.{or_else}
 use Rattle.layout.specs.Records.{Sheet, sheet}
 use Rattle.layout.specs.Opening.{opening_passes, opening}
 use Rattle.layout.specs.Checking.{checking_passes, verdict}
-use Rattle.wellformed.proofs.Told.{ok_none, err_some, or_itself}
-use Rattle.sheet.proofs.Told.{told_append, first_answer, rest_answer}
+use Rattle.wellformed.proofs.Told.{ok_none, err_some, or_itself, told_append}
+use Rattle.sheet.proofs.Told.{first_answer, rest_answer}
 use Rattle.exactness.proofs.Exact.{passes_exactly_the_valid}
 use Rattle.exactness.proofs.Told.{verdict_tells_first}
 use Rattle.checker.specs.Judged.{Exact, Told, unsafe_found, incomplete_found}

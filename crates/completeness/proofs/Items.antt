@@ -16,7 +16,7 @@ use Rattle.completeness.specs.declared.item.Item.{Item}
 use Rattle.completeness.specs.Items.{OfTerminals, looks_of, behind, wanted_by}
 use Rattle.completeness.proofs.Bits.{all_or_none}
 use Rattle.completeness.proofs.Rights.{every_drop, rights_ranged, first_few}
-use Rattle.completeness.proofs.Sets.{Bounded}
+use Rattle.wellformed.proofs.Sets.{Bounded}
 
 -- a default q decides on every terminal
 module _ (M : Automaton) (s q : ℕ) (is : M.default s ≡ Some q) where

@@ -2,4 +2,3 @@ pub mod Bits
 pub mod Items
 pub mod Rights
 pub mod Rules
-pub mod Sets

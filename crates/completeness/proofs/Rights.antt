@@ -13,8 +13,8 @@ use Rattle.layout.specs.Records.{sixteen, member}
 use Rattle.hinted.specs.Sets.{Holds, InRange as HintsInRange}
 use Rattle.wellformed.proofs.Tests.{none_some, some_same, T_or, T_and}
 use Rattle.completeness.specs.Rights.{rights}
-use Rattle.completeness.proofs.Bits.{holds_either, holds_if}
-use Rattle.completeness.proofs.Sets.{Bounded}
+use Rattle.wellformed.proofs.Bits.{stands_either, stands_if}
+use Rattle.wellformed.proofs.Sets.{Bounded}
 
 -- ITEMS OF LISTS
 
@@ -91,7 +91,7 @@ module _ (H : Hints) (α : List Symbol) (k : ℕ) (X : Symbol) (is : nth α k �
 
   module _ (m f : ℕ) (in_f : Holds f (first_symbol H X)) (a : ℕ) where
     joined : member sixteen (bit_or m f) a ≡ member sixteen m a || first_symbol H X a
-    joined = holds_either m f (member sixteen m) (first_symbol H X) (λ a. refl) in_f a
+    joined = stands_either sixteen m f (member sixteen m) (first_symbol H X) (λ a. refl) in_f a
 
     pub first_on : nullable_symbol H X ≡ true →
         member sixteen (bit_or m f) a || first_of H behind a ≡ member sixteen m a || first_of H (drop k α) a
@@ -128,8 +128,8 @@ module _ (H : Hints) (ranged : HintsInRange H) where
 pub wanted_holds : (H : Hints) (β : List Symbol) (X : Set) (f m : ℕ) → Holds f (first_of H β) → Holds m X →
     Holds (bit_or f (cond (nullable_all H β) m 0)) (wanted H β X)
 wanted_holds H β X f m in_f in-m =
-    holds_either f (cond (nullable_all H β) m 0) (first_of H β) (λ a. nullable_all H β && X a) in_f
-    (holds_if (nullable_all H β) m X in-m)
+    stands_either sixteen f (cond (nullable_all H β) m 0) (first_of H β) (λ a. nullable_all H β && X a) in_f
+    (stands_if sixteen (nullable_all H β) m X in-m)
 
 -- a dot before a symbol can go on
 pub dot_few : (M : Automaton) → Lawful narrow M → (p k : ℕ) (X : Symbol) → nth (rights M.grammar p) k ≡ Some X →

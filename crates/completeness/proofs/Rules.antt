@@ -18,7 +18,7 @@ use Rattle.wellformed.proofs.Tests.{none_some, some_same, T_some, T_given}
 use Rattle.completeness.specs.Rights.{rights}
 use Rattle.completeness.proofs.Bits.{same_is}
 use Rattle.completeness.proofs.Rights.{first_few}
-use Rattle.completeness.proofs.Sets.{Bounded}
+use Rattle.wellformed.proofs.Sets.{Bounded}
 
 -- the test of the right side of production p, if its left side is n
 abbrev pub of_left : Grammar → ℕ → (List Symbol → Bool) → ℕ → Bool

@@ -1,17 +1,16 @@
 -- Rows of hints that pass their test hold lawful hints.
-use Rattle.std.proofs.Common.{◌≡◌, ℕ, suc, ◌<◌, ◌≤◌, Bool, true, false, cond, ◌&&◌, T, eqb, ◌⊎◌, List, [], ◌∷◌, map, length, get_or, Some, None, Option, sym, refl, ap, subst, subst₂, inl, inr, ⊎_elim, eqb→eq}
+use Rattle.std.proofs.Common.{◌≡◌, ℕ, suc, ◌<◌, ◌≤◌, Bool, true, false, cond, ◌&&◌, T, eqb, ◌⊎◌, List, [], ◌∷◌, map, length, get_or, Some, sym, refl, ap, subst, subst₂, inl, inr, ⊎_elim, eqb→eq}
 use lib.Dec.{eqb_refl}
 use Rattle.syntax.specs.declared.Symbol.{Symbol}
 use Rattle.syntax.specs.declared.Symbol.TheVariants.{Terminal, Nonterminal}
 use Rattle.syntax.specs.Grammar.{Rule, terminals, nonterminals, Kind, InRange, Every}
 use Rattle.table.specs.Automaton.{Automaton, nth}
 use Rattle.table.specs.Lawful.{State}
-use Rattle.table.specs.Hints.{Set, ◌∈◌, Occupied, Hints, Known, deepest, right_side, PastSet, LookAhead}
+use Rattle.table.specs.Hints.{◌∈◌, Occupied, Hints, Known, deepest, right_side, PastSet, LookAhead}
 use Rattle.table.specs.Hints.{HintsLawful}
-use Rattle.layout.specs.Choices.{given, every}
-use Rattle.wellformed.proofs.Tests.{T_and, T_or, or_T, T_present, present_T, T_given}
-use Rattle.wellformed.proofs.Says.{Says, always, both, either, never, less, at_most, equal, each, there_is}
-use Rattle.exactness.proofs.Sets.{itself}
+use Rattle.layout.specs.Choices.{every}
+use Rattle.wellformed.proofs.Tests.{T_and, T_or, or_T, T_present, present_T, T_given, in_found}
+use Rattle.wellformed.proofs.Says.{Says, itself, always, both, either, never, less, at_most, equal, each, there_is}
 use Rattle.exactness.proofs.Symbols.{every_map}
 use Rattle.dense.specs.Rows.{Rows, automaton_of}
 use Rattle.dense.specs.HintRows.{ItemRow, NameRow, HintRows, listed, looks_of, hints_of}
@@ -60,11 +59,6 @@ in_looks Q (i ∷ is) all p d a h =
         (a ∈ listed (looks_of is p d) → Found) → Found
     go true same k later = (i, (same tt).0, (same tt).1, all.0, k)
     go false same k later = later k
-
-in_found : {X : Type 0} (g : X → Set) (o : Option X) (a : ℕ) → T (given (λ a. false) g o a) →
-    (x : X) × (o ≡ Some x) × (a ∈ g x)
-in_found g None a h = absurd h
-in_found g (Some x) a h = (x, refl, h)
 
 -- WHAT THE TESTS SAY
 

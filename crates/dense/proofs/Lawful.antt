@@ -8,8 +8,7 @@ use Rattle.table.specs.declared.Action.TheVariants.{Shift, Reduce, Accept, Rejec
 use Rattle.table.specs.Automaton.{Automaton}
 use Rattle.table.specs.Lawful.{narrow, State, RuleInRange, Lawful}
 use Rattle.wellformed.proofs.Tests.{T_and}
-use Rattle.wellformed.proofs.Says.{Says, both, either, never, less, at_most, equal, each, there, is_symbol}
-use Rattle.exactness.proofs.Sets.{itself, says_as}
+use Rattle.wellformed.proofs.Says.{Says, itself, says_as, both, either, never, less, at_most, equal, each, there, is_symbol}
 use Rattle.dense.specs.Rows.{Rows, automaton_of}
 use Rattle.dense.specs.LawTests.{each_at, kind_fits, symbol_fits, rule_fits, rejects, is_state, entry_fits}
 use Rattle.dense.specs.LawTests.{action_fits, goto_fits, default_fits, lawful_rows}

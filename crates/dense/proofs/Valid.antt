@@ -10,8 +10,7 @@ use Rattle.layout.specs.Choices.{every}
 use Rattle.layout.specs.SafetyTests.{edge_safe, reduce_safe, action_safe}
 use Rattle.layout.specs.CompletenessTests.{equations_hold, item_at}
 use Rattle.wellformed.proofs.Tests.{T_and, T_present}
-use Rattle.wellformed.proofs.Says.{each}
-use Rattle.exactness.proofs.Sets.{itself}
+use Rattle.wellformed.proofs.Says.{each, itself}
 use Rattle.exactness.proofs.SafeTable.{SafetyTested, safe_of_tests}
 use Rattle.exactness.proofs.CompleteTable.{CompletenessTested, complete_of_tests}
 use Rattle.dense.specs.Rows.{Rows, automaton_of}

@@ -1,5 +1,5 @@
 -- The tests of a well-formed sheet, which go over its records, are those of its table and hints.
-use Rattle.std.proofs.Common.{◌≡◌, ℕ, zero, suc, ◌<◌, Bool, true, false, ◌&&◌, T, eqb, List, [], ◌∷◌, drop, Some, None, Option, sym, refl, ap, ap₂, subst, lit<, eqb→eq}
+use Rattle.std.proofs.Common.{◌≡◌, ℕ, ◌<◌, Bool, true, false, ◌&&◌, T, eqb, List, [], ◌∷◌, drop, Some, None, Option, sym, refl, ap, ap₂, subst, lit<, eqb→eq}
 use Rattle.syntax.specs.declared.Symbol.{Symbol}
 use Rattle.syntax.specs.declared.Symbol.TheVariants.{Terminal, Nonterminal}
 use Rattle.syntax.specs.Grammar.{Rule, terminals}
@@ -15,19 +15,12 @@ use Rattle.layout.specs.Checking.{subset, same_test, is_rule_of}
 use Rattle.layout.specs.Checking as by_record
 use Rattle.layout.specs.CompletenessTests.{some_right, each_rule, equations_hold, one_dot_on, item_complete, item_at}
 use Rattle.wellformed.specs.Formed.{Formed}
-use Rattle.wellformed.proofs.Tests.{eq_T, T_and, and_T}
-use Rattle.wellformed.proofs.Says.{Says, if_so, all_below, one_below}
+use Rattle.wellformed.proofs.Tests.{eq_T, T_and, and_T, below_same}
+use Rattle.wellformed.proofs.Says.{Says, itself, says_as, one_test, if_so, all_below, one_below}
 use Rattle.wellformed.proofs.Rows.{Row, range_at, placed_row}
 use Rattle.wellformed.proofs.Lawful.{rule_row, lawful}
-use Rattle.exactness.proofs.Sets.{itself, says_as, one_test}
 use Rattle.exactness.proofs.Hints.{hints_lawful}
 use Rattle.exactness.proofs.CompleteTable.{says_and_then, says_right, says_each}
-
--- tests that agree at each number agree on all below a bound
-below_same : (n : ℕ) (f g : ℕ → Bool) → ((k : ℕ) → f k ≡ g k) → below n f ≡ below n g
-unfolding below
-below_same zero f g same = refl
-below_same (suc n) f g same = ap₂ (λ x y. x && y) (same n) (below_same n f g same)
 
 module _ (sh : Sheet) (w : Formed sh) where
   abbrev M : Automaton
@@ -94,7 +87,7 @@ module _ (sh : Sheet) (w : Formed sh) where
   equations_same n =
       ap₂ (λ x y. x && y)
       (ap (same_test (H.nullable n)) (some_right_same n (nullable_all H)))
-      (below_same terminals _ _ (λ a. ap (same_test (H.firsts n a)) (some_right_same n (λ α. first_of H α a))))
+      (below_same terminals _ _ (λ a lt. ap (same_test (H.firsts n a)) (some_right_same n (λ α. first_of H α a))))
 
   module _ (s p d : ℕ) where
     item_complete_same : (X : Set) (γ : List Symbol) →

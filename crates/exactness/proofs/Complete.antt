@@ -15,7 +15,7 @@ use Rattle.wellformed.specs.Formed.{Formed}
 use Rattle.wellformed.proofs.Tests.{present_T}
 use Rattle.wellformed.proofs.Rows.{Row, row_of, placed_row}
 use Rattle.wellformed.proofs.Lawful.{lawful}
-use Rattle.exactness.proofs.Bits.{some_member}
+use Rattle.wellformed.proofs.Bits.{some_member}
 use Rattle.exactness.proofs.Letters.{EachRecord, OwnKey, passed_at, each_passes}
 use Rattle.exactness.proofs.Hints.{look_row, known_row, ranged, hints_lawful}
 use Rattle.exactness.proofs.Agree.{equations_same, item_same}

@@ -17,9 +17,9 @@ use Rattle.layout.specs.CompletenessTests.{rule_count, some_right, each_rule}
 use Rattle.layout.specs.CompletenessTests.{equations_hold, items_closed, one_dot_on, item_complete, item_at}
 use Rattle.layout.specs.CompletenessTests.{initial_item}
 use Rattle.wellformed.proofs.Tests.{eq_T, T_and, T_or, none_some, some_same, given_T}
-use Rattle.wellformed.proofs.Says.{Says, both, if_so, split, equal, all_below, one_below, there_is}
+use Rattle.wellformed.proofs.Says.{Says, itself, says_as, both, if_so, split, equal, all_below, one_below, there_is}
 use Rattle.exactness.proofs.Symbols.{every_drop, all_run}
-use Rattle.exactness.proofs.Sets.{itself, says_as, says_same, Bounded, says_members, says_subset}
+use Rattle.wellformed.proofs.Sets.{says_same, Bounded, says_members, says_subset}
 
 -- WHAT THE TESTS OF AN ACTION SAY
 

@@ -10,11 +10,10 @@ use Rattle.layout.specs.Opening.{by_letter, opening}
 use Rattle.layout.specs.Checking.{safe_as, complete_as, initial_item, checking_passes, verdict}
 use Rattle.wellformed.specs.Told.{AllClean}
 use Rattle.wellformed.proofs.Tests.{T_unless, unless_T}
-use Rattle.wellformed.proofs.Says.{Says, split, less}
+use Rattle.wellformed.proofs.Says.{Says, itself, split, less}
 use Rattle.wellformed.proofs.Formed.{opens_exactly_formed, not_some}
 use Rattle.wellformed.proofs.Lawful.{lawful}
 use Rattle.exactness.specs.Exactness.{Meets, PassesExactlyTheValid, PassesInEachFormat, CheckedIsValid}
-use Rattle.exactness.proofs.Sets.{itself}
 use Rattle.exactness.proofs.Letters.{EachRecord}
 use Rattle.exactness.proofs.Told.{verdict_none, none_verdict, verdict_opens}
 use Rattle.exactness.proofs.Hints.{hints_lawful}

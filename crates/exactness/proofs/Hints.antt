@@ -12,17 +12,13 @@ use Rattle.layout.specs.Records.{Sheet, record_at, byte, set_in, symbols}
 use Rattle.layout.specs.Meaning.{placed, automaton, hints}
 use Rattle.layout.specs.Opening.{right_length}
 use Rattle.wellformed.specs.Formed.{Has, HasSymbol, IfAny, InRangeOf, Formed}
-use Rattle.wellformed.proofs.Tests.{some_same, none_some, mapped_some, T_present, present_T, T_given}
+use Rattle.wellformed.proofs.Tests.{some_same, none_some, mapped_some, T_present, present_T, T_given, in_found}
 use Rattle.wellformed.proofs.Rows.{Row, row_of, range_at, placed_row}
 use Rattle.wellformed.proofs.Lawful.{length_gather, rule_row, incoming_row, goto_row, names_at, gap_at, sense_at, has_state, one_before}
 use Rattle.exactness.specs.Exactness.{HintsAreLawful}
-use Rattle.exactness.proofs.Bits.{member_fits, member_low, some_member, member_of_even}
-use Rattle.exactness.proofs.Symbols.{every_map, every_run, length_run, run_none, symbols_in_range, no_symbols}
-
--- a member of the set that was found
-in_found : (g : ℕ → Set) (o : Option ℕ) (x : ℕ) → T (given (λ y. false) g o x) → (i : ℕ) × (o ≡ Some i) × T (g i x)
-in_found g None x h = absurd h
-in_found g (Some i) x h = (i, refl, h)
+use Rattle.wellformed.proofs.Runs.{length_run}
+use Rattle.wellformed.proofs.Bits.{member_fits, member_low, some_member, member_of_even}
+use Rattle.exactness.proofs.Symbols.{every_map, every_run, run_none, symbols_in_range, no_symbols}
 
 -- how long a right side is
 side_of_length : (t : Bool) (o : Option Rule) (n : ℕ) →

@@ -5,9 +5,8 @@ use Rattle.layout.specs.Records.{Sheet, count, record_at, byte, code}
 use Rattle.layout.specs.Meaning.{placed}
 use Rattle.layout.specs.Opening.{by_letter}
 use Rattle.wellformed.specs.Formed.{Sorted}
-use Rattle.wellformed.proofs.Says.{Says}
+use Rattle.wellformed.proofs.Says.{Says, itself}
 use Rattle.wellformed.proofs.Rows.{Row, known, second, third, says_by_letter, at_letter}
-use Rattle.exactness.proofs.Sets.{itself}
 
 -- record i is found by its own key, under this letter
 abbrev pub OwnKey : Sheet → ℕ → Letter → Type 0

@@ -1,6 +1,5 @@
 pub mod Told
 pub mod Sets
-pub mod Bits
 pub mod Letters
 pub mod Symbols
 pub mod Hints

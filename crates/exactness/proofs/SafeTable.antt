@@ -9,9 +9,10 @@ use Rattle.table.specs.Hints.{Set, ◌∈◌, Hints, HintsLawful, trail, shadow}
 use Rattle.table.specs.Safety.{Ends, Covers, Edge, Reduces, AllGo, GotosAt, Alone, Safe}
 use Rattle.layout.specs.SafetyTests.{edge_safe, all_go, rule_safe, reduce_safe, initial_alone, accept_safe, action_safe}
 use Rattle.wellformed.proofs.Tests.{eq_T, T_and, and_T, some_same}
-use Rattle.wellformed.proofs.Says.{Says, both, never, equal, there, is_symbol}
+use Rattle.wellformed.proofs.Says.{Says, says_as, both, never, equal, there, is_symbol}
 use Rattle.exactness.proofs.Symbols.{every_map, every_nth}
-use Rattle.exactness.proofs.Sets.{says_as, found_says, Bounded, says_members, says_subset, says_covers, says_ends}
+use Rattle.wellformed.proofs.Sets.{Bounded, says_members, says_subset}
+use Rattle.exactness.proofs.Sets.{found_says, says_covers, says_ends}
 
 -- WHAT THE TESTS SAY
 

@@ -1,41 +1,16 @@
 -- What the tests of sets, lists and records say.
-use Rattle.std.proofs.Common.{◌≡◌, ℕ, ◌-◌, ◌<◌, Bool, true, false, T, eqb, ◌↔◌, List, [], ◌∷◌, ◌++◌, length, take, drop, Some, Option, sym, refl, ap, ◌∙◌, subst, ap₂, arith, le→leb, eqb→eq}
+use Rattle.std.proofs.Common.{◌≡◌, ℕ, ◌-◌, ◌<◌, Bool, false, T, eqb, List, [], ◌∷◌, ◌++◌, length, take, drop, Some, Option, sym, refl, ap, ◌∙◌, subst, ap₂, arith, le→leb, eqb→eq}
 use lib.Dec.{eqb_refl}
 use Rattle.std.proofs.lemmas.List.{length-append, take-append-drop, drop_at}
 use Rattle.syntax.specs.declared.Symbol.{Symbol}
 use Rattle.syntax.specs.Grammar.{Every}
-use Rattle.table.specs.Hints.{Set, ◌∈◌, ◌⊆◌}
+use Rattle.table.specs.Hints.{Set, ◌∈◌}
 use Rattle.table.specs.Safety.{Ends, Covers}
-use Rattle.layout.specs.Choices.{given, implies, below}
+use Rattle.layout.specs.Choices.{given}
 use Rattle.layout.specs.Checking.{subset, same_symbols, ends, covers}
-use Rattle.layout.specs.Checking.{same_test}
-use Rattle.wellformed.proofs.Tests.{T_and, and_T, T_implies, implies_T, T_below, below_T, T_given, given_T}
-use Rattle.wellformed.proofs.Says.{Says, always, both, symbols_same}
-
-pub itself : (b : Bool) → Says b (T b)
-itself b = record { to = λ h. h; back = λ h. h }
-
-pub says_as : {b : Bool} {P Q : Type 0} → (P → Q) → (Q → P) → Says b P → Says b Q
-says_as f g s = record { to = λ h. f (s.to h); back = λ h. s.back (g h) }
-
--- two tests that say the same are the same
-pub one_test : {x y : Bool} {P : Type 0} → Says x P → Says y P → x ≡ y
-one_test {x = true} {y = true} p q = refl
-one_test {x = true} {y = false} p q = absurd (q.back (p.to tt))
-one_test {x = false} {y = true} p q = absurd (p.back (q.to tt))
-one_test {x = false} {y = false} p q = refl
-
--- one holds exactly when the other does
-pub says_same : {x y : Bool} {P Q : Type 0} → Says x P → Says y Q → Says (same_test x y) (P ↔ Q)
-says_same {x = true} p q = record {
-  to = λ h. (λ k. q.to h, λ k. p.to tt);
-  back = λ h. q.back (h.0 (p.to tt));
-}
-says_same {x = false} {y = true} p q = record { to = λ h. absurd h; back = λ h. p.back (h.1 (q.to tt)) }
-says_same {x = false} {y = false} p q = record {
-  to = λ h. (λ k. absurd (p.back k), λ k. absurd (q.back k));
-  back = λ h. tt;
-}
+use Rattle.wellformed.proofs.Tests.{T_and, and_T, T_given, given_T}
+use Rattle.wellformed.proofs.Says.{Says, itself, says_as, one_test, always, both, symbols_same}
+use Rattle.wellformed.proofs.Sets.{Bounded, says_subset}
 
 -- there is one, and it is so, where what is found helps to tell
 pub found_says : {X : Type 0} {f : X → Bool} {Q : X → Type 0} (o : Option X) →
@@ -46,20 +21,6 @@ found_says {f = f} o s = record {
 }
 
 -- SETS
-
--- no member from n on
-abbrev pub Bounded : ℕ → Set → Type 0
-Bounded n X = (x : ℕ) → x ∈ X → x < n
-
-pub says_members : (n : ℕ) (X : Set) {f : ℕ → Bool} {Q : ℕ → Type 0} → Bounded n X → ((x : ℕ) → Says (f x) (Q x)) →
-    Says (below n (λ x. implies (X x) (f x))) ((x : ℕ) → x ∈ X → Q x)
-says_members n X {f} few s = record {
-  to = λ h x k. (s x).to (T_implies (X x) (f x) (T_below n (λ x. implies (X x) (f x)) h x (few x k)) k);
-  back = λ h. below_T n (λ x. implies (X x) (f x)) (λ x lt. implies_T (X x) (f x) (λ k. (s x).back (h x k)));
-}
-
-pub says_subset : (n : ℕ) (X Y : Set) → Bounded n X → Says (subset n X Y) (X ⊆ Y)
-says_subset n X Y few = says_members n X few (λ x. itself (Y x))
 
 -- one state of which the other set is asked
 pub subset_one : (n s : ℕ) (Y : Set) → s < n → Y s ≡ subset n (eqb s) Y

@@ -1,5 +1,5 @@
 -- The symbols and the sets that records hold, as lists.
-use Rattle.std.proofs.Common.{◌≡◌, ℕ, zero, suc, ◌+◌, ◌<◌, ◌≤◌, List, [], ◌∷◌, length, drop, Some, None, Option, sym, refl, ap, subst, arith}
+use Rattle.std.proofs.Common.{◌≡◌, ℕ, zero, suc, ◌+◌, ◌<◌, List, [], ◌∷◌, length, drop, Some, None, Option, sym, refl, ap, subst, arith}
 use Rattle.syntax.specs.Grammar.{InRange, Every, Present}
 use Rattle.table.specs.Automaton.{nth}
 use Rattle.layout.specs.Choices.{gather, before, run}
@@ -32,15 +32,6 @@ module _ {X : Type 0} where
       go : (o : Option X) → ((x : X) → o ≡ Some x → Q x) → (xs : List X) → Every Q xs → Every Q (before o xs)
       go None here xs rest = tt
       go (Some x) here xs rest = (here x refl, rest)
-
-  pub length_run : (n : ℕ) (f : ℕ → Option X) → length (run n f) ≤ n
-  unfolding run
-  length_run zero f = omega arith
-  length_run (suc n) f = go (f 0) _ (length_run n (λ k. f (suc k)))
-    where
-      go : (o : Option X) (xs : List X) → length xs ≤ n → length (before o xs) ≤ suc n
-      go None xs le = omega arith
-      go (Some x) xs le = omega arith
 
   pub run_none : (n : ℕ) (f : ℕ → Option X) → f 0 ≡ None → run n f ≡ []
   unfolding run

@@ -1,5 +1,5 @@
 -- What the verdict tells is the refusal of the first pass that fails, of an opening's passes or of those behind them.
-use Rattle.std.proofs.Common.{◌≡◌, ◌+◌, ◌⊎◌, List, [], ◌∷◌, ◌++◌, Some, None, Option, sym, refl, ap, ◌∙◌, inl, inr}
+use Rattle.std.proofs.Common.{◌≡◌, ◌+◌, ◌⊎◌, List, [], ◌∷◌, ◌++◌, Some, None, Option, sym, ap, ◌∙◌, inl, inr}
 use Rattle.layout.specs.declared.Refusal.{Refusal}
 use Rattle.layout.specs.Refusals.{place}
 use Rattle.layout.specs.Choices.{or_else, first}
@@ -9,19 +9,8 @@ use Rattle.layout.specs.Opening.{opening, opening_passes}
 use Rattle.layout.specs.Checking.{unsafe_refused, incomplete_refused, checking_passes, verdict}
 use Rattle.wellformed.specs.Told.{Tells, AllClean, NamesPlaces}
 use Rattle.wellformed.proofs.Tests.{or_none, none_or, or_some, some_or, unless_some}
-use Rattle.wellformed.proofs.Told.{clean, none_told, tells_first, opening_tells_first, or_itself}
+use Rattle.wellformed.proofs.Told.{clean, none_told, tells_first, opening_tells_first, or_itself, told_append}
 use Rattle.exactness.specs.Exactness.{VerdictTellsFirst}
-
-or_twice : {X : Type 0} (a b c : Option X) → or_else a (or_else b c) ≡ or_else (or_else a b) c
-or_twice None b c = refl
-or_twice (Some x) b c = refl
-
--- two rows of passes, one behind the other
-pub told_both : (ps qs : List Pass) → told (ps ++ qs) ≡ or_else (told ps) (told qs)
-told_both [] qs = refl
-told_both (p ∷ ps) qs =
-    ap (or_else (first p.refused_at p.tries)) (told_both ps qs)
-    ∙ or_twice (first p.refused_at p.tries) (told ps) (told qs)
 
 tells_either : (ps qs : List Pass) (x : Refusal) → Tells ps x ⊎ (AllClean ps × Tells qs x) → Tells (ps ++ qs) x
 tells_either [] qs x (inl h) = absurd h
@@ -43,7 +32,7 @@ module _ (sh : Sheet) where
   -- the refusal of the opening, else that of the conditions
   pub verdict_is : verdict sh ≡ or_else (opening sh) (told (checking_passes sh))
   unfolding verdict opening
-  verdict_is = told_both (opening_passes sh) (checking_passes sh)
+  verdict_is = told_append (opening_passes sh) (checking_passes sh)
 
   -- nothing is refused exactly where neither refuses anything
   pub verdict_none : verdict sh ≡ None → (opening sh ≡ None) × AllClean (checking_passes sh)

@@ -1,5 +1,5 @@
 -- What a record of a sorted sheet keeps: the symbols that it counts are all in its payload.
-use Rattle.std.proofs.Common.{◌≡◌, ℕ, zero, suc, ◌+◌, ◌<◌, ◌≤◌, Bool, true, cond, ◌&&◌, ltb, List, Some, None, sym, refl, ap, ◌∙◌, arith}
+use Rattle.std.proofs.Common.{◌≡◌, ℕ, ◌+◌, ◌<◌, ◌≤◌, Bool, true, cond, ◌&&◌, ltb, List, Some, None, sym, ap, ◌∙◌, arith}
 use Rattle.std.proofs.lemmas.Bool.Decides.{nat_tests}
 use Rattle.syntax.specs.declared.Symbol.{Symbol}
 use Rattle.layout.specs.declared.Letter.{Letter}
@@ -7,6 +7,7 @@ use Rattle.layout.specs.declared.Letter.TheVariants.{A, D, G, I, K, N, P, S}
 use Rattle.layout.specs.Choices.{given, below, every}
 use Rattle.layout.specs.Records.{sheet, sixteen, count, record_at, at, letter, symbol, symbols}
 use Rattle.wellformed.specs.Formed.{InRangeOf, Sorted}
+use Rattle.wellformed.proofs.Tests.{below_same}
 use Rattle.wellformed.proofs.Rows.{range_at, code_of}
 use Rattle.wellformed.proofs.Loops.{every_gather}
 use Rattle.records.specs.Parts.{symbol_in}
@@ -26,14 +27,6 @@ short r S h = h.1.1.1.1.0
 pub short_row : (bs : List ℕ) → Sorted (sheet bs) → (i : ℕ) → i < count (sheet bs) → (l : Letter) →
     letter (record_at (sheet bs) i) ≡ Some l → Short l (record_at (sheet bs) i)
 short_row bs w i lt l e = short _ l (range_at (sheet bs) w l i lt (code_of _ l e))
-
-below_same : (n : ℕ) (f g : ℕ → Bool) → ((k : ℕ) → k < n → f k ≡ g k) → below n f ≡ below n g
-unfolding below
-below_same zero f g h = refl
-below_same (suc n) f g h =
-    let here = h n (omega arith) in
-    let rest = below_same n f g (λ k lt. h k (omega arith)) in
-    simp (here, rest)
 
 -- so that all of its symbols are among those that are read one by one
 pub each_symbol : (f : Symbol → Bool) (r : List ℕ) → at r 5 ≤ 8 →

@@ -10,18 +10,11 @@ use Rattle.layout.specs.Choices.{given, present, implies, below}
 use Rattle.layout.specs.Records.{sixteen, member}
 use Rattle.layout.specs.Checking.{subset, covers}
 use Rattle.layout.specs.SafetyTests.{all_go, initial_alone}
-use Rattle.wellformed.proofs.Tests.{none_some, some_same, T_below, below_T}
+use Rattle.wellformed.proofs.Tests.{none_some, some_same, T_below, below_T, below_same}
 use Rattle.hinted.specs.Sets.{Holds, HoldsIfAny}
 use Rattle.hinted.proofs.Held.{holds_some, holds_none}
-use Rattle.exactness.proofs.Bits.{stands_none, stands_one, subset_is, alone_is, member_low}
+use Rattle.wellformed.proofs.Bits.{stands_none, stands_one, subset_is, alone_is, member_low}
 use Rattle.safety.specs.Parts.{alone, marked}
-
--- what passes the same below a bound
-pub below_same : (n : ℕ) (f g : ℕ → Bool) → ((k : ℕ) → k < n → f k ≡ g k) → below n f ≡ below n g
-unfolding below
-below_same zero f g h = refl
-below_same (suc n) f g h =
-    ap₂ (λ x y. x && y) (h n (omega arith)) (below_same n f g (λ k lt. h k (omega arith)))
 
 -- THE STATE ITSELF
 

@@ -5,7 +5,7 @@ use lib.Pow.{shr_le}
 use Rattle.std.proofs.lemmas.Bool.{eq-eqb, ne_eqb}
 use Rattle.table.specs.Lawful.{narrow}
 use Rattle.layout.specs.Records.{sixteen, member}
-use Rattle.exactness.proofs.Bits.{Bit, half_bit, bit_is}
+use Rattle.wellformed.proofs.Bits.{Bit, half_bit, bit_is}
 use Rattle.safety.proofs.Depths.{more_bits}
 
 -- bit t of m is set, and none below it is

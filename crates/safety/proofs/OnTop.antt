@@ -9,7 +9,7 @@ use Rattle.layout.specs.Choices.{below}
 use Rattle.layout.specs.Checking.{same_symbols, ends}
 use Rattle.wellformed.proofs.Loops.{below_shift}
 use Rattle.safety.specs.Parts.{same_ones}
-use Rattle.safety.proofs.Depths.{below_same}
+use Rattle.wellformed.proofs.Tests.{below_same}
 
 -- THE TRAIL OF A STATE
 

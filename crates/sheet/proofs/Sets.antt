@@ -10,7 +10,7 @@ use Rattle.layout.specs.Records.{sixteen, sheet, record_at, payload, member, set
 use Rattle.layout.specs.Meaning.{placed, hints}
 use Rattle.wellformed.specs.Formed.{Formed}
 use Rattle.wellformed.proofs.Tests.{none_some, some_same}
-use Rattle.wellformed.proofs.Bits.{none_member}
+use Rattle.wellformed.proofs.Bits.{stands_none}
 use Rattle.wellformed.proofs.Bounds.{past_set_is}
 use Rattle.sorted.specs.Found.{taken, by_key}
 
@@ -20,7 +20,7 @@ module _ (bs : List ℕ) where
 
   -- where no record was found the set is empty
   pub holds_none : (o : Option ℕ) → None ≡ mapped (taken (sheet bs)) o → Holds 0 (given (λ x. false) set_at o)
-  holds_none None e x = none_member sixteen x
+  holds_none None e x = stands_none sixteen x
   holds_none (Some i) e x = absurd (none_some e)
 
   found_none : (o : Option ℕ) → None ≡ mapped (taken (sheet bs)) o → HoldsIfAny None (mapped set_at o)

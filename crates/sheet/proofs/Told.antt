@@ -1,23 +1,11 @@
 -- What rows of passes one behind the other tell.
-use Rattle.std.proofs.Common.{◌≡◌, ℕ, false, List, [], ◌∷◌, ◌++◌, is_some, Some, None, Ok, Err, Option, Result, sym, refl, ap, ◌∙◌}
+use Rattle.std.proofs.Common.{◌≡◌, ℕ, false, is_some, Some, None, Ok, Err, Option, Result, sym, ap, ◌∙◌}
 use Rattle.layout.specs.declared.Refusal.{Refusal}
 use Rattle.layout.specs.Refusals.{answered}
-use Rattle.layout.specs.Choices.{or_else, first}
+use Rattle.layout.specs.Choices.{or_else}
 use Rattle.layout.specs.Records.{Sheet}
-use Rattle.layout.specs.Passes.{Pass, told}
 use Rattle.layout.specs.Opening.{names_found, sense_found, sorting_passes, naming_passes, sorting, opening}
-use Rattle.wellformed.proofs.Told.{ok_none, or_itself}
-
-or_assoc : (a b c : Option Refusal) → or_else a (or_else b c) ≡ or_else (or_else a b) c
-or_assoc None b c = refl
-or_assoc (Some x) b c = refl
-
--- the first row, and where it tells nothing the second
-pub told_append : (ps qs : List Pass) → told (ps ++ qs) ≡ or_else (told ps) (told qs)
-told_append [] qs = refl
-told_append (p ∷ ps) qs =
-    ap (or_else (first p.refused_at p.tries)) (told_append ps qs)
-    ∙ or_assoc (first p.refused_at p.tries) (told ps) (told qs)
+use Rattle.wellformed.proofs.Told.{ok_none, or_itself, told_append}
 
 -- the answer to a row is that to its first part, and where that refuses nothing that to the rest
 pub first_answer : {x : Refusal} (o rest : Option Refusal) → Err x ≡ answered o → Err x ≡ answered (or_else o rest)

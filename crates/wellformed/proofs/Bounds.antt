@@ -1,5 +1,5 @@
 -- The hints of a well-formed sheet fit into numbers of 64 bits, and a past set is found by its key.
-use Rattle.std.proofs.Common.{◌≡◌, ℕ, suc, ◌-◌, ◌<◌, ◌≤◌, false, T, ◌⊎◌, List, [], length, is_some, Some, None, Option, refl, ap, subst, inl, inr, arith}
+use Rattle.std.proofs.Common.{◌≡◌, ℕ, suc, ◌-◌, ◌<◌, ◌≤◌, false, ◌⊎◌, List, [], length, is_some, Some, None, Option, refl, ap, subst, inl, inr, arith}
 use Rattle.syntax.specs.Grammar.{terminals, Present}
 use Rattle.table.specs.Automaton.{nth}
 use Rattle.table.specs.Hints.{Set, ◌∈◌, deepest}
@@ -11,17 +11,12 @@ use Rattle.layout.specs.Records.{sixteen, sheet, record_at, byte, set_in, symbol
 use Rattle.layout.specs.Meaning.{placed, hints}
 use Rattle.layout.specs.Opening.{opening}
 use Rattle.wellformed.specs.Formed.{Has, NoGap, InRangeOf, Formed}
-use Rattle.wellformed.proofs.Tests.{mapped_some}
+use Rattle.wellformed.proofs.Tests.{mapped_some, in_found}
 use Rattle.wellformed.proofs.Rows.{Row, row_of, range_at, at_letter, none_placed}
 use Rattle.wellformed.proofs.Formed.{formed_of}
 use Rattle.wellformed.proofs.Lawful.{length_gather}
 use Rattle.wellformed.proofs.Bits.{member_low}
 use Rattle.wellformed.proofs.Runs.{length_run, nth_run}
-
--- a member of the set that was found
-in_found : (g : ℕ → Set) (o : Option ℕ) (x : ℕ) → T (given (λ y. false) g o x) → (i : ℕ) × (o ≡ Some i) × T (g i x)
-in_found g None x h = absurd h
-in_found g (Some i) x h = (i, refl, h)
 
 module _ (bs : List ℕ) (w : Formed (sheet bs)) where
   ranged : (l : Letter) (a b c i : ℕ) → Row (sheet bs) l a b c i → InRangeOf sixteen (record_at (sheet bs) i) l

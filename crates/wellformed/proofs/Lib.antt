@@ -1,5 +1,6 @@
 pub mod Tests
 pub mod Says
+pub mod Sets
 pub mod Firsts
 pub mod Told
 pub mod Rows

@@ -1,5 +1,5 @@
 -- What a test says: a proposition that holds exactly when the test passes.
-use Rattle.std.proofs.Common.{◌≡◌, ℕ, ◌<◌, ◌≤◌, Bool, true, false, cond, not, ◌&&◌, ◌||◌, T, eqb, ltb, leb, ◌⊎◌, List, [], ◌∷◌, Some, None, Option, ap, subst, inl, inr, le→leb, eqb→eq, ltb→lt, lt→ltb, leb→le, T_not}
+use Rattle.std.proofs.Common.{◌≡◌, ℕ, ◌<◌, ◌≤◌, Bool, true, false, cond, not, ◌&&◌, ◌||◌, T, eqb, ltb, leb, ◌⊎◌, List, [], ◌∷◌, Some, None, Option, refl, ap, subst, inl, inr, le→leb, eqb→eq, ltb→lt, lt→ltb, leb→le, T_not}
 use lib.Dec.{not_T, eqb_refl}
 use Rattle.syntax.specs.declared.Symbol.{Symbol}
 use Rattle.syntax.specs.declared.Symbol.TheVariants.{Terminal, Nonterminal}
@@ -13,6 +13,19 @@ use Rattle.wellformed.proofs.Tests.{T_some, some_T, T_present, present_T, T_give
 pub record Says (b : Bool) (Q : Type 0) : Type 0 where
   pub to : T b → Q
   pub back : Q → T b
+
+pub itself : (b : Bool) → Says b (T b)
+itself b = record { to = λ h. h; back = λ h. h }
+
+pub says_as : {b : Bool} {P Q : Type 0} → (P → Q) → (Q → P) → Says b P → Says b Q
+says_as f g s = record { to = λ h. f (s.to h); back = λ h. s.back (g h) }
+
+-- two tests that say the same are the same
+pub one_test : {x y : Bool} {P : Type 0} → Says x P → Says y P → x ≡ y
+one_test {x = true} {y = true} p q = refl
+one_test {x = true} {y = false} p q = absurd (q.back (p.to tt))
+one_test {x = false} {y = true} p q = absurd (p.back (q.to tt))
+one_test {x = false} {y = false} p q = refl
 
 pub always : Says true (Unit {0})
 always = record { to = λ h. h; back = λ h. h }

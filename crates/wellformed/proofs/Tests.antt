@@ -1,5 +1,5 @@
 -- Tests, options, and what a test over a range of numbers says.
-use Rattle.std.proofs.Common.{◌≡◌, ℕ, zero, suc, ◌<◌, Bool, true, false, not, ◌&&◌, ◌||◌, T, eqb, ◌⊎◌, Some, None, Option, sym, refl, ap, subst, inl, inr, ⊎_elim, arith}
+use Rattle.std.proofs.Common.{◌≡◌, ℕ, zero, suc, ◌<◌, Bool, true, false, not, ◌&&◌, ◌||◌, T, eqb, ◌⊎◌, Some, None, Option, sym, refl, ap, ap₂, subst, inl, inr, ⊎_elim, arith}
 use lib.Dec.{eqb_refl}
 use Rattle.std.proofs.lemmas.Bool.{cases_order}
 use Rattle.layout.specs.Choices.{or_else, mapped, given, present, unless, implies, below, some_below}
@@ -57,6 +57,13 @@ pub below_T : (n : ℕ) (f : ℕ → Bool) → ((k : ℕ) → k < n → T (f k))
 unfolding below
 below_T zero f h = tt
 below_T (suc n) f h = and_T (f n) (below n f) (h n (omega arith)) (below_T n f (λ k lt. h k (omega arith)))
+
+-- tests that are the same at each number below a bound are the same of all of them
+pub below_same : (n : ℕ) (f g : ℕ → Bool) → ((k : ℕ) → k < n → f k ≡ g k) → below n f ≡ below n g
+unfolding below
+below_same zero f g h = refl
+below_same (suc n) f g h =
+    ap₂ (λ x y. x && y) (h n (omega arith)) (below_same n f g (λ k lt. h k (omega arith)))
 
 pub T_some : (n : ℕ) (f : ℕ → Bool) → T (some_below n f) → (k : ℕ) × (k < n) × T (f k)
 unfolding some_below
@@ -122,3 +129,9 @@ or_some (Some y) b x e = inl e
 
 pub some_or : {X : Type 0} (a b : Option X) (x : X) → a ≡ Some x → or_else a b ≡ Some x
 some_or a b x e = ap (λ m. or_else m b) e
+
+-- a member of the set that goes with what is found
+pub in_found : {X : Type 0} (g : X → ℕ → Bool) (o : Option X) (x : ℕ) → T (given (λ y. false) g o x) →
+    (i : X) × (o ≡ Some i) × T (g i x)
+in_found g None x h = absurd h
+in_found g (Some i) x h = (i, refl, h)

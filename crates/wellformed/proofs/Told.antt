@@ -1,5 +1,5 @@
 -- What is told is the refusal of the first pass that fails, at its least place.
-use Rattle.std.proofs.Common.{◌≡◌, ℕ, ◌+◌, ◌<◌, ◌⊎◌, List, [], ◌∷◌, Some, None, Ok, Err, Option, sym, refl, ap, ◌∙◌, subst, inl, inr, arith}
+use Rattle.std.proofs.Common.{◌≡◌, ℕ, ◌+◌, ◌<◌, ◌⊎◌, List, [], ◌∷◌, ◌++◌, Some, None, Ok, Err, Option, sym, refl, ap, ◌∙◌, subst, inl, inr, arith}
 use Rattle.layout.specs.declared.Refusal.{Refusal}
 use Rattle.layout.specs.declared.Refusal.TheVariants.{Order, Range}
 use Rattle.layout.specs.Refusals.{place, answered}
@@ -124,3 +124,16 @@ module _ (sh : Sheet) where
   pub none_sorting : LengthNone → RecordsNone → sorting sh ≡ None
   unfolding sorting
   none_sorting a b = simp (a, b)
+
+-- ROWS OF PASSES, ONE BEHIND THE OTHER
+
+or_assoc : {X : Type 0} (a b c : Option X) → or_else a (or_else b c) ≡ or_else (or_else a b) c
+or_assoc None b c = refl
+or_assoc (Some x) b c = refl
+
+-- the first row, and where it tells nothing the second
+pub told_append : (ps qs : List Pass) → told (ps ++ qs) ≡ or_else (told ps) (told qs)
+told_append [] qs = refl
+told_append (p ∷ ps) qs =
+    ap (or_else (first p.refused_at p.tries)) (told_append ps qs)
+    ∙ or_assoc (first p.refused_at p.tries) (told ps) (told qs)

@@ -3,7 +3,7 @@ use Rattle.syntax.specs.Grammar.{InRange}
 use Rattle.table.specs.Completeness.{nullable_all, first_of}
 use Rattle.layout.specs.Records.{sixteen, member}
 use Rattle.completeness.specs.Rights.{rights}
-use Rattle.completeness.proofs.Bits.{holds_none}
+use Rattle.wellformed.proofs.Bits.{stands_none}
 use Rattle.completeness.proofs.Rights.{nth_none, nth_within, every_nth, rights_ranged, nullable_on, nullable_end}
 use Rattle.completeness.proofs.Rights.{first_on, first_end, or_nothing}
 use Rattle.completeness.proofs.beginnings.beginning_from.Goals as goal
@@ -12,7 +12,7 @@ pub loop-symbol-init : goal.loop-symbol-init
 loop-symbol-init g c =
     let H = g.T.Hinted.hints c.args.table.now in
     let all = rights (g.T.Table.meaning c.args.table.now).grammar c.args.p in
-    (refl, λ a. ap (λ b. b || first_of H (drop c.args.from all) a) (holds_none a))
+    (refl, λ a. ap (λ b. b || first_of H (drop c.args.from all) a) (stands_none sixteen a))
 
 pub first_terminals-firsts-requires : goal.first_terminals-firsts-requires
 first_terminals-firsts-requires g c =

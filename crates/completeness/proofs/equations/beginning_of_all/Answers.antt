@@ -3,13 +3,13 @@ use Rattle.table.specs.Completeness.{nullable_all, first_of}
 use Rattle.layout.specs.Choices.{some_below}
 use Rattle.layout.specs.Records.{sixteen, member}
 use Rattle.wellformed.proofs.Loops.{some_start}
-use Rattle.completeness.proofs.Bits.{holds_none, holds_either}
+use Rattle.wellformed.proofs.Bits.{stands_none, stands_either}
 use Rattle.completeness.proofs.Rules.{of_left, counted, all_counted, some_takes, some_skips}
 use Rattle.completeness.proofs.equations.beginning_of_all.Goals as goal
 use Rattle.completeness.proofs.equations.beginning_of_all.Goals.{then-production-n, else-production-n}
 
 pub loop-production-init : goal.loop-production-init
-loop-production-init g c = (omega arith, sym (some_start _), λ a. holds_none a ∙ sym (some_start _))
+loop-production-init g c = (omega arith, sym (some_start _), λ a. stands_none sixteen a ∙ sym (some_start _))
 
 pub overflow_add-p : goal.overflow_add-p
 overflow_add-p g c =
@@ -39,7 +39,7 @@ loop-production-preserved g c =
       | then-production-n w ↦
           let right = w.beginning_from-right in
           let begins = right.ensures in
-          let both = holds_either c.loop-production.firsts right.result.firsts _ _ inv.2 begins.firsts in
+          let both = stands_either sixteen c.loop-production.firsts right.result.firsts _ _ inv.2 begins.firsts in
           let own = w.if-production-n.true in (
             omega arith,
             w.nullable-is ∙ ap₂ (λ a b. a || b) inv.1 begins.nullable

@@ -1,24 +1,10 @@
 -- What the tests of sets say.
-use Rattle.std.proofs.Common.{◌≡◌, ℕ, ◌<◌, Bool, true, false, T, ◌↔◌, refl}
+use Rattle.std.proofs.Common.{ℕ, ◌<◌, Bool, true, false, ◌↔◌}
 use Rattle.table.specs.Hints.{Set, ◌∈◌, ◌⊆◌}
 use Rattle.layout.specs.Choices.{implies, below}
-use Rattle.layout.specs.Checking.{subset}
-use Rattle.layout.specs.Checking.{same_test}
+use Rattle.layout.specs.Checking.{subset, same_test}
 use Rattle.wellformed.proofs.Tests.{T_implies, implies_T, T_below, below_T}
-use Rattle.wellformed.proofs.Says.{Says}
-
-pub itself : (b : Bool) → Says b (T b)
-itself b = record { to = λ h. h; back = λ h. h }
-
-pub says_as : {b : Bool} {P Q : Type 0} → (P → Q) → (Q → P) → Says b P → Says b Q
-says_as f g s = record { to = λ h. f (s.to h); back = λ h. s.back (g h) }
-
--- two tests that say the same are the same
-pub one_test : {x y : Bool} {P : Type 0} → Says x P → Says y P → x ≡ y
-one_test {x = true} {y = true} p q = refl
-one_test {x = true} {y = false} p q = absurd (q.back (p.to tt))
-one_test {x = false} {y = true} p q = absurd (p.back (q.to tt))
-one_test {x = false} {y = false} p q = refl
+use Rattle.wellformed.proofs.Says.{Says, itself}
 
 -- one holds exactly when the other does
 pub says_same : {x y : Bool} {P Q : Type 0} → Says x P → Says y Q → Says (same_test x y) (P ↔ Q)
