@@ -28,6 +28,7 @@ use Rattle.machine.proofs.Alike.{ends, ends_true}
 use Rattle.machine.proofs.Counts.{left_at_most, at_most_below, room, room_cells, room_sink}
 use Rattle.machine.proofs.Tracks.{next_move}
 use Rattle.machine.proofs.Told.{Waits, Why, Told, tokens_are, list_is, run_told}
+use Rattle.table.specs.declared.Slip.{Slip as WhySlip}
 
 -- what a valid table gives the machine without bounds
 module _ {V : Type 0} {states : ℕ} (M : Automaton) (v : Valid states M) (R : Algebra V) where
@@ -62,7 +63,7 @@ module _ {V : Type 0} (R : Algebra V) (M : Automaton) (t : Tree) (k : ℕ) (c : 
       by (inl (l, (d, g, low))) = clash (cc)
       by (inr a) = clash (cc)
 
-  not_slipped : (j : ℕ) → move R M true c ≡ slips j → ⊥
+  not_slipped : (j : WhySlip) → move R M true c ≡ slips j → ⊥
   not_slipped j h = by goes
     where
       by : Goes → ⊥
@@ -198,7 +199,7 @@ module _ {V : Type 0} (R : Algebra V) (run : Run V) where
       fits_accepted : FittingTree run → r.outcome ≡ Accepted
       fits_accepted (t, o, f) = accepted t o f r.outcome refl T.why
 
-      not_slipped_ever : (k : ℕ) → r.outcome ≡ Halted (Slip k) → ⊥
+      not_slipped_ever : (k : WhySlip) → r.outcome ≡ Halted (Slip k) → ⊥
       not_slipped_ever k is =
           let slipped = since (Halted (Slip k)) is in
           no_slips run.table v R ending r.steps run.stream.tokens T.core T.tracks.moved k slipped

@@ -29,6 +29,8 @@ use Rattle.machine.proofs.Alike.{ends, without_fault, stream_of, found_alike, fo
 use Rattle.machine.proofs.Alike.{landing_alike, start_alike}
 use Rattle.machine.proofs.Counts.{Left, left_at_most, spent_at_most, left_on, room, in_room}
 use Rattle.machine.proofs.Turned.{pushed, replaced, back_turned, last_turned}
+use Rattle.table.specs.declared.Slip.{Slip as WhySlip}
+use Rattle.table.specs.declared.Slip.TheVariants.{FewCells, AtEnd}
 
 module _ {V : Type 0} (R : Algebra V) (run : Run V) where
   -- what stood at new
@@ -233,7 +235,7 @@ module _ {V : Type 0} (R : Algebra V) (run : Run V) where
 
     shift_steps : (t : ℕ) (w : List Token) → c.rest ≡ w → next_move c ≡ shift_to R t c.cells c.values w →
         Stepped c a b n (shifting R t r w)
-    shift_steps t [] is h = inr (Halted (Slip 4), refl, h)
+    shift_steps t [] is h = inr (Halted (Slip AtEnd), refl, h)
     shift_steps t (k ∷ w) is h =
         let v = R.leaf_rule k in
         let d = core (t ∷ c.cells) (v ∷ c.values) w in
@@ -251,7 +253,7 @@ module _ {V : Type 0} (R : Algebra V) (run : Run V) where
 
     -- a shift, a reduce or an accept that the machine finds too
 
-    land_steps : (p : ℕ) (rule : Rule) (l : Result ℕ ℕ) → landing_of M rule c.cells ≡ l →
+    land_steps : (p : ℕ) (rule : Rule) (l : Result ℕ WhySlip) → landing_of M rule c.cells ≡ l →
         next_move c ≡ land R p (length rule.right) c l → Stepped c a b n (going R p (length rule.right) r l)
     land_steps p rule (Err k) is h = inr (Halted (Slip k), refl, h)
     land_steps p rule (Ok t) is h =
@@ -260,19 +262,19 @@ module _ {V : Type 0} (R : Algebra V) (run : Run V) where
         node_steps p k t le h
 
     reduce_steps : (p : ℕ) (o : Option Rule) → next_move c ≡ reduce_by R M p o c → Stepped c a b n (reducing R p o r)
-    reduce_steps p None h = inr (Halted (Slip 1), refl, h)
+    reduce_steps p None h = inr (Halted (Slip FewCells), refl, h)
     reduce_steps p (Some rule) h =
         let same = sym (landing_alike M rule c.cells) in
         subst (λ l. Stepped c a b n (going R p (length rule.right) r l)) same
         (land_steps p rule (landing_of M rule c.cells) refl h)
 
     accept_settles : next_move c ≡ accept_with M c.cells →
-        Reason (cond (carry_start M (reverse c.cells)) Accepted (Halted (Slip 4))) c n
+        Reason (cond (carry_start M (reverse c.cells)) Accepted (Halted (Slip AtEnd))) c n
     accept_settles h =
-        subst (λ x. Reason (cond x Accepted (Halted (Slip 4))) c n) (sym (start_alike M c.cells))
+        subst (λ x. Reason (cond x Accepted (Halted (Slip AtEnd))) c n) (sym (start_alike M c.cells))
         (go (carry_start M c.cells) h)
       where
-        go : (x : Bool) → next_move c ≡ cond x accepts (slips 4) → Reason (cond x Accepted (Halted (Slip 4))) c n
+        go : (x : Bool) → next_move c ≡ cond x accepts (slips AtEnd) → Reason (cond x Accepted (Halted (Slip AtEnd))) c n
         go true g = g
         go false g = g
 

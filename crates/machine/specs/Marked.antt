@@ -19,6 +19,7 @@ use Rattle.outcome.specs.declared.Report.{Report}
 use Rattle.machine.specs.Reading.{State}
 use Rattle.machine.specs.Calls.{called, after_calls, answer}
 use Rattle.machine.specs.Runs.{new}
+use Rattle.table.specs.declared.Slip.TheVariants.{FewCells, WrongSymbol, NoGoto, AtEnd}
 
 -- a value is the events, in postfix, by which its tree is sent: a leaf with its kind and place, a node with its
 -- production and how many children it has
@@ -220,12 +221,12 @@ spots =
     -- too few trees for the children, told before the full sink
     ∷ spot (1 ∷ 2 ∷ []) (spent_at 1) [] 7 (Turn 1) (tells (Halted (Sink (TooFewTrees 1))) 7)
     -- the four slips
-    ∷ spot (2 ∷ []) (holding 1) [] 7 (Turn 1) (tells (Halted (Slip 1)) 7)
-    ∷ spot (2 ∷ 2 ∷ []) (holding 2) [] 7 (Turn 1) (tells (Halted (Slip 2)) 7)
-    ∷ spot (1 ∷ 1 ∷ 2 ∷ []) (holding 3) [] 7 (Turn 1) (tells (Halted (Slip 3)) 7)
-    ∷ spot (1 ∷ 1 ∷ []) (holding 2) [] 7 (Turn 1) (tells (Halted (Slip 4)) 7)
+    ∷ spot (2 ∷ []) (holding 1) [] 7 (Turn 1) (tells (Halted (Slip FewCells)) 7)
+    ∷ spot (2 ∷ 2 ∷ []) (holding 2) [] 7 (Turn 1) (tells (Halted (Slip WrongSymbol)) 7)
+    ∷ spot (1 ∷ 1 ∷ 2 ∷ []) (holding 3) [] 7 (Turn 1) (tells (Halted (Slip NoGoto)) 7)
+    ∷ spot (1 ∷ 1 ∷ []) (holding 2) [] 7 (Turn 1) (tells (Halted (Slip AtEnd)) 7)
     -- with no step left an accept that slips is told, a reduce that would slip is not
-    ∷ spot (1 ∷ 1 ∷ []) (holding 2) [] 7 (Turn 0) (tells (Halted (Slip 4)) 7)
+    ∷ spot (1 ∷ 1 ∷ []) (holding 2) [] 7 (Turn 0) (tells (Halted (Slip AtEnd)) 7)
     ∷ spot (2 ∷ []) (holding 1) [] 7 (Turn 0) (tells More 7)
     -- so are an accept, and a reject of a token and, in a state that is none, of END
     ∷ spot (1 ∷ []) (holding 1) [] 7 (Turn 0) (tells Accepted 7)

@@ -16,6 +16,7 @@ use Rattle.outcome.specs.declared.Report.{Report}
 use Rattle.machine.specs.Reading.{State, most_cells, most_steps, place_of_next}
 use Rattle.machine.specs.Calls.{called, answer, report}
 use Rattle.machine.specs.Runs.{Run, then_call, after, grant, Fits}
+use Rattle.table.specs.declared.Slip.{Slip as WhySlip}
 
 -- the run has read its whole text into r, as one tree behind what the sink had at new, in as many steps as its size
 pub record ReadWhole {V : Type 0} (R : Algebra V) (run : Run V) (r : State V) : Type 0 where
@@ -47,7 +48,7 @@ pub record Promised (states : ℕ) {V : Type 0} (R : Algebra V) (run : Run V) : 
   pub one_tree : Valid states run.table → (w : List Token) (t u : Tree) →
       TreeOf run.table.grammar w t → TreeOf run.table.grammar w u → t ≡ u
   pub accepts_what_fits : Valid states run.table → ((after R run).outcome ≡ Accepted) ↔ FittingTree run
-  pub never_slips : Valid states run.table → (k : ℕ) → (after R run).outcome ≢ Halted (Slip k)
+  pub never_slips : Valid states run.table → (k : WhySlip) → (after R run).outcome ≢ Halted (Slip k)
   pub rejects_hopeless : Valid states run.table →
       (p : Option ℕ) → (after R run).outcome ≡ Rejected p → Hopeless run (after R run) p
 

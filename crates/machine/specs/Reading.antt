@@ -16,6 +16,8 @@ use Rattle.outcome.specs.declared.Halt.TheVariants.{Source, Sink, Cells, Slip}
 use Rattle.outcome.specs.declared.Outcome.{Outcome}
 use Rattle.outcome.specs.declared.Outcome.TheVariants.{More, Accepted, Rejected, Halted}
 use Rattle.outcome.specs.Numbers.{ended}
+use Rattle.table.specs.declared.Slip.{Slip as WhySlip}
+use Rattle.table.specs.declared.Slip.TheVariants.{FewCells, AtEnd}
 
 -- how many cells there are, and how many steps a reading makes at most
 abbrev pub most_cells : ℕ
@@ -88,7 +90,7 @@ module _ {V : Type 0} where
   settled r (Err f) = Halted (Source f)
   settled r (Ok (Shift t)) = More
   settled r (Ok (Reduce p)) = More
-  settled r (Ok Accept) = cond (carry_start r.table r.cells) Accepted (Halted (Slip 4))
+  settled r (Ok Accept) = cond (carry_start r.table r.cells) Accepted (Halted (Slip AtEnd))
   settled r (Ok Reject) = Rejected (place_of_next r.stream.tokens)
 
   -- what is done where no step is left
@@ -118,8 +120,8 @@ module _ {V : Type 0} where
   if_room answer r next =
       cond (nat_le (length next.cells) most_cells) (sent_to answer r next) (halt r (Cells r.steps))
 
--- where a reduce by `rule` leads from cells: a state, or slip 1 (too few cells), 2 (a wrong symbol) or 3 (no goto)
-abbrev pub landing_from : Automaton → Rule → List ℕ → Result ℕ ℕ
+-- where a reduce by `rule` leads from cells: a state, or the first slip of too few cells, a wrong symbol and no goto
+abbrev pub landing_from : Automaton → Rule → List ℕ → Result ℕ WhySlip
 landing_from M rule ss =
     let k = length rule.right in
     landing M rule (nat_le k (length ss)) (back k ss) (last_of (front k ss))
@@ -127,13 +129,13 @@ landing_from M rule ss =
 module _ {V : Type 0} (R : Algebra V) where
   -- the leaf is sent, the token taken, the state pushed (at END, where no lawful table shifts, it slips)
   abbrev pub shifting : ℕ → State V → List Token → State V
-  shifting t r [] = halt r (Slip 4)
+  shifting t r [] = halt r (Slip AtEnd)
   shifting t r (k ∷ ks) =
       let stack = leaf_after R k r.stack in
       if_room (leaf_answer r.stack) r (stepped (r.cells ++ (t ∷ [])) stack (dropped r.stream) r)
 
   -- the node is sent, its children's states popped, the goto pushed
-  abbrev pub going : ℕ → ℕ → State V → Result ℕ ℕ → State V
+  abbrev pub going : ℕ → ℕ → State V → Result ℕ WhySlip → State V
   going p k r (Err n) = halt r (Slip n)
   going p k r (Ok t) =
       let stack = node_after R p k r.stack in
@@ -141,7 +143,7 @@ module _ {V : Type 0} (R : Algebra V) where
 
   -- a reduce by production p, which a lawful table has
   abbrev pub reducing : ℕ → Option Rule → State V → State V
-  reducing p None r = halt r (Slip 1)
+  reducing p None r = halt r (Slip FewCells)
   reducing p (Some rule) r = going p (length rule.right) r (landing_from r.table rule r.cells)
 
   -- what the action found makes of the reading

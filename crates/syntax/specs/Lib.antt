@@ -1,3 +1,4 @@
 pub mod Grammar
 pub mod Trees
 pub mod Values
+pub mod Told

@@ -1,6 +1,12 @@
 //! What a plan is made of: its tokens, and the symbols and productions of its grammar.
 #![tactic(auto)]
 
+/// The kind of a word that is no keyword.
+pub const WORD: u8 = 1;
+
+/// The kind of a number.
+pub const NUMBER: u8 = 2;
+
 /// A piece of a plan. Its kind is the terminal that it stands for, 1 to 31; terminal 0, END, is no token.
 #[derive(Clone, Copy, PartialEq, Eq, Debug)]
 pub struct Token {

@@ -4,3 +4,4 @@ pub mod Hints
 pub mod Lawful
 pub mod Safety
 pub mod Validity
+pub mod Slips

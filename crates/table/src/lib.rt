@@ -4,9 +4,31 @@
 ghost use Rattle.std.specs.Prelude.{◌≡◌, ℕ};
 ghost use Rattle.table.specs.Automaton.{Automaton, head, symbol_at};
 ghost use Rattle.table.specs.Lawful.{Lawful, narrow};
+ghost use Rattle.table.specs.Slips.{number as slip_number};
 ghost use Rattle.table.specs.Validity.{Valid};
 
 use syntax::{Production, Symbol};
+
+/// How many terminals there are at most, END among them.
+pub const TERMINALS: u8 = 32;
+
+/// How many nonterminals there are at most.
+pub const NONTERMINALS: u8 = 32;
+
+/// How many productions there are at most.
+pub const PRODUCTIONS: u8 = 64;
+
+/// How many symbols a right side has at most.
+pub const LONGEST: u8 = 8;
+
+/// How many states a table has at most.
+pub const STATES: u8 = 64;
+
+/// How far back past symbols and past sets go at most.
+pub const DEEPEST: u8 = 8;
+
+/// The number of the production that is added to every grammar, whose right side is the start alone.
+pub const ADDED: u8 = 254;
 
 /// What to do in a state before a terminal.
 #[derive(Clone, Copy, PartialEq, Eq, Debug)]
@@ -15,6 +37,27 @@ pub enum Action {
     Reduce(u8),
     Accept,
     Reject,
+}
+
+/// How a reading by a table that was not checked goes wrong. Each slip has its number.
+#[derive(Clone, Copy, PartialEq, Eq, Debug)]
+pub enum Slip {
+    /// A reduce wants more cells than there are, or its production is absent.
+    FewCells = 1,
+    /// A cell was not entered by the symbol that a reduce wants there.
+    WrongSymbol = 2,
+    /// A reduce leads nowhere: the state below it has no goto.
+    NoGoto = 3,
+    /// An accept finds other cells than one of the start, or a shift no token.
+    AtEnd = 4,
+}
+
+impl Slip {
+    pub fn number(self) -> u8
+        ensures { result ≡ slip_number self }
+    {
+        self as u8
+    }
 }
 
 /// A grammar and its automaton. A question answers its part of the meaning and changes nothing; out of range the answer

@@ -22,6 +22,8 @@ use Rattle.theory.specs.Theorems.{NoSlips, ReadsEveryTree}
 use Rattle.theory.proofs.Firsts.{next, forest_wanted}
 use Rattle.theory.proofs.Moves.{moves_more, leads_moves, leads_add, leads_more}
 use Rattle.theory.proofs.View.{has_landed}
+use Rattle.table.specs.declared.Slip.{Slip}
+use Rattle.table.specs.declared.Slip.TheVariants.{AtEnd}
 
 -- lists
 
@@ -97,7 +99,7 @@ module _ {V : Type 0} (R : Algebra V) (M : Automaton) where
         reduces =
             move_by (reverse_aux xs ss) (reverse_aux ys vs) w (Reduce p) act ∙ ap (λ o. reduce_by R M p o c) e
 
-        go : (l : Result ℕ ℕ) → landing_of M r (reverse_aux xs ss) ≡ l → move R M true c ≡ land R p k c l →
+        go : (l : Result ℕ Slip) → landing_of M r (reverse_aux xs ss) ≡ l → move R M true c ≡ land R p k c l →
             (t : ℕ) × (M.goto (current ss) r.left ≡ Some t)
             × (move R M true c ≡ on (core (t ∷ ss) (R.node_rule p ys ∷ vs) w))
         go (Err j) l f = absurd (N true n u c moved j f)
@@ -205,10 +207,10 @@ module _ {V : Type 0} (R : Algebra V) (M : Automaton) where
               leads = rw append_assoc more;
             }
 
-accepted : {V : Type 0} (m : Move V) (b : Bool) → m ≡ cond b accepts (slips 4) → ((k : ℕ) → m ≡ slips k → ⊥) →
+accepted : {V : Type 0} (m : Move V) (b : Bool) → m ≡ cond b accepts (slips AtEnd) → ((k : Slip) → m ≡ slips k → ⊥) →
     m ≡ accepts
 accepted m true e firm = e
-accepted m false e firm = absurd (firm 4 e)
+accepted m false e firm = absurd (firm AtEnd e)
 
 pub reads_every_tree : (V : Type 0) → ReadsEveryTree V
 reads_every_tree V states M completely R N w t (o, is) =

@@ -15,6 +15,7 @@ use Rattle.theory.proofs.Clash.{clash}
 use Rattle.theory.proofs.Moves.{first_move}
 use Rattle.theory.proofs.Onward.{stops_there}
 use Rattle.theory.proofs.View.{same_core, accept_stays, view_rejects}
+use Rattle.table.specs.declared.Slip.{Slip}
 
 -- the same sight behind the same tokens
 seen_behind : (x : List Token) (a b : Bool) (r s : List Token) → seen a r ≡ seen b s →
@@ -43,7 +44,7 @@ module _ {V : Type 0} (R : Algebra V) (M : Automaton) where
   reduce_replays p None c d e = absurd (clash (cc))
   reduce_replays p (Some rule) c d e = go (landing_of M rule c.cells) e
     where
-      go : (l : Result ℕ ℕ) → land R p (length rule.right) c l ≡ on d →
+      go : (l : Result ℕ Slip) → land R p (length rule.right) c l ≡ on d →
           Replays c (λ r. land R p (length rule.right) (with_rest c r) l) d
       go (Err n) f = absurd (clash (cc))
       go (Ok t) f = let s = same_core _ d f in ([], ap (λ b. b.rest) s, λ r. ap (λ b. on (with_rest b r)) s)

@@ -13,6 +13,8 @@ use Rattle.theory.specs.Machine.{Core, core, Move, on, accepts, rejects, slips, 
 use Rattle.theory.specs.Machine.{carry_start, landing_of, shift_to, land, reduce_by, perform, move, and_then, moves}
 use Rattle.theory.specs.Maps.{forest, Homomorphism, core_map, move_map}
 use Rattle.theory.specs.Theorems.{Natural, ReadingMaps}
+use Rattle.table.specs.declared.Slip.{Slip}
+use Rattle.table.specs.declared.Slip.TheVariants.{AtEnd}
 
 map_reverse_aux : {V W : Type 0} (h : V → W) (vs ws : List V) →
     map h (reverse_aux vs ws) ≡ reverse_aux (map h vs) (map h ws)
@@ -27,7 +29,7 @@ module _ {V W : Type 0} (M : Automaton) (R : Algebra V) (S : Algebra W) (h : V �
       ∙ ap (S.node_rule p) (sym (map_reverse_aux h (take k vs) []))
       ∙ sym (H.on_node p (reverse (take k vs)))
 
-  land_natural : (p k : ℕ) (c : Core V) (l : Result ℕ ℕ) → land S p k (core_map h c) l ≡ move_map h (land R p k c l)
+  land_natural : (p k : ℕ) (c : Core V) (l : Result ℕ Slip) → land S p k (core_map h c) l ≡ move_map h (land R p k c l)
   land_natural p k c (Err n) = refl
   land_natural p k c (Ok t) =
       ap₂ (λ (w : W) (ws : List W). on (core (t ∷ drop k c.cells) (w ∷ ws) c.rest))
@@ -43,7 +45,7 @@ module _ {V W : Type 0} (M : Automaton) (R : Algebra V) (S : Algebra W) (h : V �
   shift_natural t ss vs [] = refl
   shift_natural t ss vs (k ∷ w) = ap (λ v. on (core (t ∷ ss) (v ∷ map h vs) w)) (sym (H.on_leaf k))
 
-  accept_natural : (b : Bool) → cond b accepts (slips 4) ≡ move_map h (cond b accepts (slips 4))
+  accept_natural : (b : Bool) → cond b accepts (slips AtEnd) ≡ move_map h (cond b accepts (slips AtEnd))
   accept_natural true = refl
   accept_natural false = refl
 

@@ -18,6 +18,8 @@ use Rattle.theory.proofs.Clash.{clash, some_some, none_some}
 use Rattle.theory.proofs.Symbols.{enters_own}
 use Rattle.theory.proofs.View.{found_reduce, found_seen, Landed, lands}
 use Rattle.theory.proofs.Hinted.{Hold, Hinted, held_at, shadow_holds, carried_top, moves_hinted}
+use Rattle.table.specs.declared.Slip.{Slip}
+use Rattle.table.specs.declared.Slip.TheVariants.{AtEnd}
 
 abbrev Firm : {V : Type 0} → Move V → Type 0
 Firm (on c) = Unit {0}
@@ -84,7 +86,7 @@ module _ {states : ℕ} (M : Automaton) (safely : SafeUnderHints states M) where
         let reduces = found_reduce M (current c.cells) (seen ended c.rest) p e in
         let (r, k) = known states M safely.lawful (current c.cells) p reduces in
         let (t, l) = reduce_lands c.cells S p r reduces k in
-        let Lands = λ (x : Result ℕ ℕ). Firm (land R p (length r.right) c x) in
+        let Lands = λ (x : Result ℕ Slip). Firm (land R p (length r.right) c x) in
         let landed : Firm (reduce_by R M p (Some r) c) = subst Lands (sym (lands M r c.cells t l)) tt in
         subst (λ (o : Option Rule). Firm (reduce_by R M p o c)) (sym k) landed
 
@@ -93,7 +95,7 @@ module _ {states : ℕ} (M : Automaton) (safely : SafeUnderHints states M) where
         let sight = seen ended c.rest in
         let (a, sees, act) = found_seen M (current c.cells) sight Accept (λ p f. clash (cc)) e in
         let start_alone = accept_lands c.cells S a act in
-        subst (λ (b : Bool). Firm {V = V} (cond b accepts (slips 4))) (sym start_alone) tt
+        subst (λ (b : Bool). Firm {V = V} (cond b accepts (slips AtEnd))) (sym start_alone) tt
 
     move_firm : Firm (move R M ended c)
     move_firm = go (found M (current c.cells) (seen ended c.rest)) refl

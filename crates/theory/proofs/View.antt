@@ -11,6 +11,8 @@ use Rattle.theory.specs.Machine.{Core, core, Move, on, accepts, rejects, slips, 
 use Rattle.theory.specs.Machine.{unless_default, found, carry, carry_start, landed, landing_of, shift_to}
 use Rattle.theory.specs.Machine.{with_node, land, reduce_by, accept_with, perform, move, and_then}
 use Rattle.theory.proofs.Clash.{clash, some_some, none_some}
+use Rattle.table.specs.declared.Slip.{Slip}
+use Rattle.table.specs.declared.Slip.TheVariants.{FewCells, WrongSymbol, AtEnd}
 
 -- moves
 
@@ -30,7 +32,7 @@ module _ {V : Type 0} where
   pub accept_stays : (M : Automaton) (ss : List ℕ) (d : Core V) → accept_with M ss ≡ on d → ⊥
   accept_stays M ss d e = go (carry_start M ss) e
     where
-      go : (b : Bool) → ◌≡◌ {A = Move V} (cond b accepts (slips 4)) (on d) → ⊥
+      go : (b : Bool) → ◌≡◌ {A = Move V} (cond b accepts (slips AtEnd)) (on d) → ⊥
       go true h = clash (cc)
       go false h = clash (cc)
 
@@ -80,7 +82,7 @@ has_landed M r ss t e =
     let (b, c, g) = go (leb k (length ss)) (carry M top r.right) (M.goto (current (drop k ss)) r.left) e in
     record { enough = b; carried = c; goes = g }
   where
-    go : (b c : Bool) (g : Option ℕ) → cond b (cond c (landed g) (Err 2)) (Err 1) ≡ Ok t →
+    go : (b c : Bool) (g : Option ℕ) → cond b (cond c (landed g) (Err WrongSymbol)) (Err FewCells) ≡ Ok t →
         (b ≡ true) × (c ≡ true) × (g ≡ Some t)
     go true true None h = absurd (clash (cc))
     go true true (Some u) h = (refl, refl, ap {B = Option ℕ} Some (cc))
@@ -146,7 +148,7 @@ module _ {V : Type 0} (R : Algebra V) (M : Automaton) where
     reduced : (d : Core V) (p : ℕ) → Finds (Reduce p) → reduce_by R M p (M.grammar p) c ≡ on d → Reduced c d
     reduced d p e h = go (M.grammar p) refl h
       where
-        by : (r : Rule) → M.grammar p ≡ Some r → (l : Result ℕ ℕ) → landing_of M r c.cells ≡ l →
+        by : (r : Rule) → M.grammar p ≡ Some r → (l : Result ℕ Slip) → landing_of M r c.cells ≡ l →
             land R p (length r.right) c l ≡ on d → Reduced c d
         by r k (Err n) f g = absurd (clash (cc))
         by r k (Ok t) f g = record {
@@ -179,7 +181,7 @@ module _ {V : Type 0} (R : Algebra V) (M : Automaton) where
         let (a, f, act) = found_here Accept (λ p g. clash (cc)) e in
         record { sight = a; sees = f; acts = act; carried = go (carry_start M c.cells) h }
       where
-        go : (b : Bool) → ◌≡◌ {A = Move V} (cond b accepts (slips 4)) accepts → b ≡ true
+        go : (b : Bool) → ◌≡◌ {A = Move V} (cond b accepts (slips AtEnd)) accepts → b ≡ true
         go true g = refl
         go false g = absurd (clash (cc))
 
@@ -202,7 +204,7 @@ module _ {V : Type 0} (R : Algebra V) (M : Automaton) where
   reduce_works p None c = tt
   reduce_works p (Some r) c = go (landing_of M r c.cells)
     where
-      go : (l : Result ℕ ℕ) → Works (land R p (length r.right) c l)
+      go : (l : Result ℕ Slip) → Works (land R p (length r.right) c l)
       go (Ok t) = tt
       go (Err n) = tt
 
@@ -221,7 +223,7 @@ module _ {V : Type 0} (R : Algebra V) (M : Automaton) where
     pub view_rejects : move R M ended c ≡ rejects → Finds R M ended c Reject
     view_rejects h = go (found M (current c.cells) (seen ended c.rest)) refl h
       where
-        by : (b : Bool) → ◌≡◌ {A = Move V} (cond b accepts (slips 4)) rejects → ⊥
+        by : (b : Bool) → ◌≡◌ {A = Move V} (cond b accepts (slips AtEnd)) rejects → ⊥
         by true g = clash (cc)
         by false g = clash (cc)
 

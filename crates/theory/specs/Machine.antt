@@ -8,6 +8,8 @@ use Rattle.syntax.specs.Values.{Algebra}
 use Rattle.table.specs.declared.Action.{Action}
 use Rattle.table.specs.declared.Action.TheVariants.{Shift, Reduce, Accept, Reject}
 use Rattle.table.specs.Automaton.{Automaton}
+use Rattle.table.specs.declared.Slip.{Slip}
+use Rattle.table.specs.declared.Slip.TheVariants.{FewCells, WrongSymbol, NoGoto, AtEnd}
 
 -- what is found to do
 
@@ -56,15 +58,15 @@ abbrev pub carry_start : Automaton → List ℕ → Bool
 carry_start M ss = carry M ss (start ∷ [])
 
 -- a reduce with no goto slips
-abbrev pub landed : Option ℕ → Result ℕ ℕ
-landed None = Err 3
+abbrev pub landed : Option ℕ → Result ℕ Slip
+landed None = Err NoGoto
 landed (Some t) = Ok t
 
--- where a reduce by r leads that finds the states `top`, in order, over `below`: a state, or the number of a slip,
--- which is 1 with too few cells, 2 with a wrong symbol and 3 with no goto
-abbrev pub landing : Automaton → Rule → Bool → List ℕ → ℕ → Result ℕ ℕ
+-- where a reduce by r leads that finds the states `top`, in order, over `below`: a state, or a slip, the first of too few
+-- cells, a wrong symbol and no goto
+abbrev pub landing : Automaton → Rule → Bool → List ℕ → ℕ → Result ℕ Slip
 landing M r enough top below =
-    cond enough (cond (carry M top r.right) (landed (M.goto below r.left)) (Err 2)) (Err 1)
+    cond enough (cond (carry M top r.right) (landed (M.goto below r.left)) (Err WrongSymbol)) (Err FewCells)
 
 -- what a move does
 
@@ -92,7 +94,7 @@ pub data Move (V : Type 0) : Type 0 where
   on : Core V → Move V
   accepts : Move V
   rejects : Move V
-  slips : ℕ → Move V
+  slips : Slip → Move V
   -- nothing was shown where a look was needed
   starves : Move V
 
@@ -107,7 +109,7 @@ and_then starves f = starves
 module _ {V : Type 0} (R : Algebra V) where
   -- the next token becomes a leaf (none is there only where a table shifts at END: a slip like an accept too early)
   abbrev pub shift_to : ℕ → List ℕ → List V → List Token → Move V
-  shift_to t ss vs [] = slips 4
+  shift_to t ss vs [] = slips AtEnd
   shift_to t ss vs (k ∷ w) = on (core (t ∷ ss) (R.leaf_rule k ∷ vs) w)
 
   -- the k newest values become a node of production p, and its cell is t
@@ -117,24 +119,24 @@ module _ {V : Type 0} (R : Algebra V) where
       core (t ∷ drop k c.cells) (v ∷ drop k c.values) c.rest
 
   -- a reduce goes on where it lands, or slips
-  abbrev pub land : ℕ → ℕ → Core V → Result ℕ ℕ → Move V
+  abbrev pub land : ℕ → ℕ → Core V → Result ℕ Slip → Move V
   land p k c (Err n) = slips n
   land p k c (Ok t) = on (with_node p k t c)
 
 -- the landing of a reduce by r from cells
-abbrev pub landing_of : Automaton → Rule → List ℕ → Result ℕ ℕ
+abbrev pub landing_of : Automaton → Rule → List ℕ → Result ℕ Slip
 landing_of M r ss =
     let k = length r.right in
     landing M r (nat_le k (length ss)) (reverse (take k ss)) (current (drop k ss))
 
 -- an accept wants the start alone, else it slips
 abbrev pub accept_with : {V : Type 0} → Automaton → List ℕ → Move V
-accept_with M ss = cond (carry_start M ss) accepts (slips 4)
+accept_with M ss = cond (carry_start M ss) accepts (slips AtEnd)
 
 module _ {V : Type 0} (R : Algebra V) (M : Automaton) where
   -- a reduce by production p, which a lawful table has
   abbrev pub reduce_by : ℕ → Option Rule → Core V → Move V
-  reduce_by p None c = slips 1
+  reduce_by p None c = slips FewCells
   reduce_by p (Some r) c = land R p (length r.right) c (landing_of M r c.cells)
 
   -- what an action makes of c; with none it starves

@@ -9,6 +9,7 @@ use Rattle.table.specs.Lawful.{Lawful}
 use Rattle.table.specs.Validity.{SafeUnderHints, CompleteUnderHints}
 use Rattle.theory.specs.Machine.{Core, core, fresh, on, accepts, rejects, slips, move, moves, Leads}
 use Rattle.theory.specs.Maps.{tree_algebra, Homomorphism, core_map, move_map}
+use Rattle.table.specs.declared.Slip.{Slip}
 
 -- naturality: moves with mapped values are the moves, with their values mapped
 abbrev pub Natural : Type 0 → Type 0 → Type 0
@@ -48,7 +49,7 @@ AcceptsOnlyTrees V = (states : ℕ) (M : Automaton) → Lawful states M →
 -- no run from the empty stack comes to a slip
 abbrev pub NoSlips : {V : Type 0} → Algebra V → Automaton → Type 0
 NoSlips {V} R M = (ended : Bool) (n : ℕ) (w : List Token) (c : Core V) → moves R M ended n (fresh w) ≡ on c →
-    (k : ℕ) → move R M ended c ≢ slips k
+    (k : Slip) → move R M ended c ≢ slips k
 
 -- a table that is safe under some hints comes to none
 abbrev pub NeverSlips : Type 0 → Type 0
