@@ -1,8 +1,11 @@
 //! What the bytes of a sheet mean, and what is refused of them: definitions, and the names that code shares with them.
 #![tactic(auto)]
 
-ghost use Rattle.std.specs.Prelude.{◌≡◌};
+ghost use Rattle.std.specs.Prelude.{◌≡◌, Some};
+ghost use Rattle.syntax.specs.Told.{number_at_place};
 ghost use Rattle.layout.specs.Refusals.{number as number_of, place as place_of};
+
+use std::fmt;
 
 /// The letter that a record's key begins with.
 #[derive(Clone, Copy, PartialEq, Eq, Debug)]
@@ -65,12 +68,21 @@ impl Refusal {
     {
         match self {
             Refusal::Length => 0,
-            Refusal::Order { record } => record,
-            Refusal::Range { record } => record,
-            Refusal::Absent { record } => record,
-            Refusal::Contradiction { record } => record,
-            Refusal::Unsafe { record } => record,
-            Refusal::Incomplete { record } => record,
+            Refusal::Order { record }
+            | Refusal::Range { record }
+            | Refusal::Absent { record }
+            | Refusal::Contradiction { record }
+            | Refusal::Unsafe { record }
+            | Refusal::Incomplete { record } => record,
         }
+    }
+}
+
+/// Its number and its place, as in `7 at 8`.
+impl fmt::Display for Refusal {
+    ghost output = { λ r. Some (number_at_place (number_of r) (place_of r)) };
+
+    fn fmt<W: fmt::Write>(&self, f: &mut fmt::Formatter<W>) -> fmt::Result {
+        write!(f, "{} at {}", self.number(), self.place())
     }
 }

@@ -2,6 +2,7 @@
 use Rattle.std.specs.Prelude.{ℕ, Bool, true, false, Some, None, Option}
 use Rattle.source.specs.Faults as source
 use Rattle.sink.specs.Faults as sink
+use Rattle.table.specs.Slips as slip
 use Rattle.outcome.specs.declared.Halt.{Halt}
 use Rattle.outcome.specs.declared.Halt.TheVariants.{Source, Sink, Cells, Slip}
 use Rattle.outcome.specs.declared.Outcome.{Outcome}
@@ -20,7 +21,7 @@ abbrev pub of_halt : Halt → Notice
 of_halt (Source f) = record { number = source.number f; place = source.place f; layer = Some (source.layer f) }
 of_halt (Sink f) = record { number = sink.number f; place = sink.place f; layer = None }
 of_halt (Cells n) = record { number = 22; place = n; layer = None }
-of_halt (Slip n) = record { number = 25; place = n; layer = None }
+of_halt (Slip s) = record { number = 25; place = slip.number s; layer = None }
 
 -- a call is declined at the steps made
 abbrev pub of_declined : Declined → Notice

@@ -1,21 +1,24 @@
 //! What a reading answers: how it stands, why it halted, which calls it declined.
 #![tactic(auto)]
 
-ghost use Rattle.std.specs.Prelude.{◌≡◌};
+ghost use Rattle.std.specs.Prelude.{◌≡◌, Some};
 ghost use Rattle.outcome.specs.declared.Halt.TheVariants.{Source as from_source, Sink as from_sink};
 ghost use Rattle.outcome.specs.Numbers.{of_halt, of_declined, place_of, ended};
+ghost use Rattle.outcome.specs.Words.{notice_words, outcome_words};
 
 use sink::SinkFault;
 use source::SourceFault;
+use std::fmt;
+use table::Slip;
 
-/// Why a reading could not go on: the fault of its source or its sink, a cell more than there are, or a slip, 1 to 4,
-/// which no checked table makes.
+/// Why a reading could not go on: the fault of its source or its sink, a cell more than there are, or a slip, which no
+/// checked table makes.
 #[derive(Clone, Copy, PartialEq, Eq, Debug)]
 pub enum Halt {
     Source(SourceFault),
     Sink(SinkFault),
     Cells { steps: u64 },
-    Slip { number: u8 },
+    Slip(Slip),
 }
 
 impl From<SourceFault> for Halt {
@@ -43,7 +46,7 @@ impl Halt {
             Halt::Source(fault) => fault.number(),
             Halt::Sink(fault) => fault.number(),
             Halt::Cells { .. } => 22,
-            Halt::Slip { .. } => 25,
+            Halt::Slip(_) => 25,
         }
     }
 
@@ -55,7 +58,7 @@ impl Halt {
             Halt::Source(fault) => u64::from(fault.place()),
             Halt::Sink(fault) => fault.place(),
             Halt::Cells { steps } => steps,
-            Halt::Slip { number } => u64::from(number),
+            Halt::Slip(slip) => u64::from(slip.number()),
         }
     }
 
@@ -66,6 +69,19 @@ impl Halt {
         match self {
             Halt::Source(fault) => Some(fault.layer()),
             _ => None,
+        }
+    }
+}
+
+/// Its number and its place, and behind a source's fault the layer, as in `9 at 3 layer 0`.
+impl fmt::Display for Halt {
+    ghost output = { λ h. Some (notice_words (of_halt h)) };
+
+    fn fmt<W: fmt::Write>(&self, f: &mut fmt::Formatter<W>) -> fmt::Result {
+        write!(f, "{} at {}", self.number(), self.place())?;
+        match self.layer() {
+            Some(layer) => write!(f, " layer {layer}"),
+            None => Ok(()),
         }
     }
 }
@@ -103,6 +119,22 @@ impl Outcome {
     }
 }
 
+/// As the record of a reading tells it: `rejected at 3`, `halted 9 at 3 layer 0`.
+impl fmt::Display for Outcome {
+    ghost output = { λ o. Some (outcome_words o) };
+
+    fn fmt<W: fmt::Write>(&self, f: &mut fmt::Formatter<W>) -> fmt::Result {
+        match self {
+            Outcome::More => write!(f, "more"),
+            Outcome::Accepted => write!(f, "accepted"),
+            Outcome::Rejected { at: Some(place) } => write!(f, "rejected at {place}"),
+            Outcome::Rejected { at: None } => write!(f, "rejected at the end"),
+            Outcome::Halted(halt) => write!(f, "halted {halt}"),
+            Outcome::Stopped => write!(f, "stopped"),
+        }
+    }
+}
+
 /// Why a call was declined, with the steps made so far: the reading has ended, the turn could bring the steps above
 /// their limit, or a mark was asked for before the end.
 #[derive(Clone, Copy, PartialEq, Eq, Debug)]
@@ -129,10 +161,19 @@ impl Declined {
         ensures { result ≡ (of_declined self).place }
     {
         match self {
-            Declined::Ended { steps } => steps,
-            Declined::TooManySteps { steps } => steps,
-            Declined::BeforeEnd { steps } => steps,
+            Declined::Ended { steps }
+            | Declined::TooManySteps { steps }
+            | Declined::BeforeEnd { steps } => steps,
         }
+    }
+}
+
+/// Its number and its place, as in `21 at 5`.
+impl fmt::Display for Declined {
+    ghost output = { λ d. Some (notice_words (of_declined d)) };
+
+    fn fmt<W: fmt::Write>(&self, f: &mut fmt::Formatter<W>) -> fmt::Result {
+        write!(f, "{} at {}", self.number(), self.place())
     }
 }
 

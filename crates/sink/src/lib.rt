@@ -1,11 +1,13 @@
 //! Sinks: what takes the events of a reading, a leaf for each token and a node for each reduction.
 #![tactic(auto)]
 
-ghost use Rattle.std.specs.Prelude.{◌≡◌, true, length, is_err};
+ghost use Rattle.std.specs.Prelude.{◌≡◌, true, Some, length, is_err};
+ghost use Rattle.syntax.specs.Told.{number_at_place};
 ghost use Rattle.syntax.specs.Values.{Algebra};
 ghost use Rattle.sink.specs.Stacks.{Stack, leaf_answer, leaf_after, node_answer, node_after};
 ghost use Rattle.sink.specs.Faults.{number as number_of, place as place_of};
 
+use std::fmt;
 use syntax::Token;
 
 mod lent;
@@ -33,9 +35,17 @@ impl SinkFault {
         ensures { result ≡ place_of self }
     {
         match self {
-            SinkFault::Full { trees } => trees,
-            SinkFault::TooFewTrees { trees } => trees,
+            SinkFault::Full { trees } | SinkFault::TooFewTrees { trees } => trees,
         }
+    }
+}
+
+/// Its number and its place, as in `23 at 4`.
+impl fmt::Display for SinkFault {
+    ghost output = { λ f. Some (number_at_place (number_of f) (place_of f)) };
+
+    fn fmt<W: fmt::Write>(&self, f: &mut fmt::Formatter<W>) -> fmt::Result {
+        write!(f, "{} at {}", self.number(), self.place())
     }
 }
 

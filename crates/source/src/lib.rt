@@ -1,11 +1,13 @@
 //! Token sources: the interface, and the faults that a source can end in.
 #![tactic(auto)]
 
-ghost use Rattle.std.specs.Prelude.{◌≡◌, ℕ};
+ghost use Rattle.std.specs.Prelude.{◌≡◌, ℕ, Some};
 ghost use Rattle.syntax.specs.Grammar.{Kinded};
+ghost use Rattle.syntax.specs.Told.{number_at_place};
 ghost use Rattle.source.specs.Streams.{Stream, answer, dropped};
 ghost use Rattle.source.specs.Faults.{number as number_of, place as place_of, layer as layer_of};
 
+use std::fmt;
 use syntax::Token;
 
 /// Why a source gives no further token: what it met, the place in the plan, and the layer that tells it.
@@ -33,10 +35,10 @@ impl SourceFault {
         ensures { result ≡ place_of self }
     {
         match self {
-            SourceFault::UnknownByte { place, .. } => place,
-            SourceFault::LongWord { place, .. } => place,
-            SourceFault::LargeNumber { place, .. } => place,
-            SourceFault::TooManyTokens { place, .. } => place,
+            SourceFault::UnknownByte { place, .. }
+            | SourceFault::LongWord { place, .. }
+            | SourceFault::LargeNumber { place, .. }
+            | SourceFault::TooManyTokens { place, .. } => place,
         }
     }
 
@@ -44,11 +46,20 @@ impl SourceFault {
         ensures { result ≡ layer_of self }
     {
         match self {
-            SourceFault::UnknownByte { layer, .. } => layer,
-            SourceFault::LongWord { layer, .. } => layer,
-            SourceFault::LargeNumber { layer, .. } => layer,
-            SourceFault::TooManyTokens { layer, .. } => layer,
+            SourceFault::UnknownByte { layer, .. }
+            | SourceFault::LongWord { layer, .. }
+            | SourceFault::LargeNumber { layer, .. }
+            | SourceFault::TooManyTokens { layer, .. } => layer,
         }
+    }
+}
+
+/// Its number and its place, as in `9 at 3`.
+impl fmt::Display for SourceFault {
+    ghost output = { λ f. Some (number_at_place (number_of f) (place_of f)) };
+
+    fn fmt<W: fmt::Write>(&self, f: &mut fmt::Formatter<W>) -> fmt::Result {
+        write!(f, "{} at {}", self.number(), self.place())
     }
 }
 
