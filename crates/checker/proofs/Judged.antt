@@ -1,13 +1,14 @@
 -- What the answers of the passes say together.
-use Rattle.std.proofs.Common.{◌≡◌, ℕ, List, None, Ok, Err, Option, Result, sym, ap, ◌∙◌}
+use Rattle.std.proofs.Common.{◌≡◌, ℕ, List, Some, None, Ok, Err, Option, Result, sym, ap, ◌∙◌, subst}
 use Rattle.layout.specs.declared.Refusal.{Refusal}
 use Rattle.layout.specs.Refusals.{answered}
 use Rattle.layout.specs.Choices.{or_else}
 use Rattle.layout.specs.Records.{Sheet, sheet}
 use Rattle.layout.specs.Opening.{opening_passes, opening}
 use Rattle.layout.specs.Checking.{checking_passes, verdict}
+use Rattle.wellformed.proofs.Tests.{none_or, some_or}
 use Rattle.wellformed.proofs.Told.{ok_none, err_some, or_itself, told_append}
-use Rattle.sheet.proofs.Told.{first_answer, rest_answer}
+use Rattle.sheet.proofs.Told.{first_told, rest_told}
 use Rattle.exactness.proofs.Exact.{passes_exactly_the_valid}
 use Rattle.exactness.proofs.Told.{verdict_tells_first}
 use Rattle.checker.specs.Judged.{Exact, Told, unsafe_found, incomplete_found}
@@ -20,22 +21,31 @@ module _ (sh : Sheet) where
   unfolding verdict opening
   verdict_is = told_append (opening_passes sh) (checking_passes sh)
 
-  to_verdict : {r : Result (Unit {0}) Refusal} → r ≡ answered (or_else (opening sh) conditions) → r ≡ answered (verdict sh)
-  to_verdict h = h ∙ sym (ap answered verdict_is)
+  pub opening_told : {x : Refusal} → opening sh ≡ Some x → verdict sh ≡ Some x
+  opening_told e = verdict_is ∙ some_or (opening sh) conditions _ e
 
-  pub opening_answer : {x : Refusal} → Err x ≡ answered (opening sh) → Err x ≡ answered (verdict sh)
-  opening_answer e = to_verdict (first_answer (opening sh) conditions e)
+-- the conditions are tested of what was opened, and that is what was given
+module _ (bs kept : List ℕ) (same : kept ≡ bs) (opens : opening (sheet bs) ≡ None) where
+  to_verdict : {o : Option Refusal} → conditions (sheet bs) ≡ o → verdict (sheet bs) ≡ o
+  to_verdict e = verdict_is (sheet bs) ∙ (none_or (opening (sheet bs)) (conditions (sheet bs)) opens ∙ e)
 
-  pub unsafe_answer : {x : Refusal} → Ok tt ≡ answered (opening sh) → Err x ≡ answered (unsafe_found sh) →
-      Err x ≡ answered (verdict sh)
-  unsafe_answer o e = to_verdict (rest_answer (opening sh) conditions o (first_answer (unsafe_found sh) _ e))
+  pub unsafe_told : {x : Refusal} → Err x ≡ answered (unsafe_found (sheet kept)) → verdict (sheet bs) ≡ Some x
+  unsafe_told {x} e =
+      let here = subst (λ l. Err x ≡ answered (unsafe_found (sheet l))) same e in
+      to_verdict (first_told (unsafe_found (sheet bs)) _ here)
 
-  pub incomplete_answer : {r : Result (Unit {0}) Refusal} →
-      Ok tt ≡ answered (opening sh) → Ok tt ≡ answered (unsafe_found sh) → r ≡ answered (incomplete_found sh) →
-      r ≡ answered (verdict sh)
-  incomplete_answer o s e =
-      to_verdict (rest_answer (opening sh) conditions o
-      (rest_answer (unsafe_found sh) _ s (e ∙ sym (ap answered (or_itself (incomplete_found sh))))))
+  module _ (safe : Ok tt ≡ answered (unsafe_found (sheet kept))) where
+    rest_of : {o : Option Refusal} → incomplete_found (sheet kept) ≡ o → verdict (sheet bs) ≡ o
+    rest_of {o} e =
+        let passed = subst (λ l. Ok tt ≡ answered (unsafe_found (sheet l))) same safe in
+        let here = subst (λ l. incomplete_found (sheet l) ≡ o) same e in
+        to_verdict (rest_told (unsafe_found (sheet bs)) _ passed (or_itself (incomplete_found (sheet bs)) ∙ here))
+
+    pub incomplete_told : {x : Refusal} → Err x ≡ answered (incomplete_found (sheet kept)) → verdict (sheet bs) ≡ Some x
+    incomplete_told e = rest_of (err_some _ _ e)
+
+    pub nothing_told : Ok tt ≡ answered (incomplete_found (sheet kept)) → verdict (sheet bs) ≡ None
+    nothing_told e = rest_of (ok_none _ e)
 
 -- the answer in the terms of the conditions
 module _ (bs : List ℕ) (r : Result (Unit {0}) Refusal) (h : r ≡ answered (verdict (sheet bs))) where

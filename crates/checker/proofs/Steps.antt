@@ -1,56 +1,42 @@
 -- One turn of a pass: what the test of a record says of its place.
-use Rattle.std.proofs.Common.{◌≡◌, ℕ, ◌≤◌, Bool, false, cond, List, is_some, Some, None, Option, sym, ap, ◌∙◌}
+use Rattle.std.proofs.Common.{◌≡◌, ℕ, ◌<◌, ◌≤◌, Bool, false, cond, List, is_some, Some, Option, sym, ap, ◌∙◌, arith}
 use Rattle.std.proofs.lemmas.Bool.{lt-ltb, le-ltb}
-use Rattle.records.specs.declared.Record.{Record}
 use Rattle.layout.specs.declared.Letter.TheVariants.{I, N}
 use Rattle.layout.specs.declared.Refusal.{Refusal}
-use Rattle.layout.specs.declared.Refusal.TheVariants.{Unsafe, Incomplete}
+use Rattle.layout.specs.declared.Refusal.TheVariants.{Incomplete}
 use Rattle.layout.specs.Choices.{given, unless}
 use Rattle.layout.specs.Records.{Sheet, sheet, count, record_at, at, letter}
 use Rattle.layout.specs.Meaning.{automaton, hints}
 use Rattle.layout.specs.Opening.{by_letter, opening}
 use Rattle.layout.specs.Checking as by_record
 use Rattle.layout.specs.CompletenessTests.{equations_hold, item_at}
-use Rattle.layout.specs.Checking.{initial_item, safe_as, complete_as, unsafe_refused, incomplete_refused}
+use Rattle.layout.specs.Checking.{initial_item, safe_as, complete_as, incomplete_refused}
 use Rattle.wellformed.specs.Formed.{Formed}
 use Rattle.wellformed.proofs.Formed.{formed_of, few_records}
 use Rattle.exactness.proofs.Agree.{equations_same, item_same}
-use Rattle.sorted.specs.Found.{by_place}
-use Rattle.sorted.proofs.Finds.{place_some, place_none}
 
 -- places fit into 32 bits
 pub few : (bs : List ℕ) → is_some (opening (sheet bs)) ≡ false → count (sheet bs) ≤ 4095
 few bs e = few_records bs (formed_of (sheet bs) e).sorted
 
 module _ (sh : Sheet) where
-  -- the tests of a record that was read
-  abbrev safe : Record → Bool
-  safe r = by_letter r.bytes (safe_as sh r.bytes)
+  -- the tests of a record
+  abbrev pub safe : List ℕ → Bool
+  safe r = by_letter r (safe_as sh r)
 
-  abbrev complete : Record → Bool
-  complete r = by_letter r.bytes (complete_as sh r.bytes)
+  abbrev pub complete : List ℕ → Bool
+  complete r = by_letter r (complete_as sh r)
 
   -- the last pass at a place, where this says whether the place is that of a record
   abbrev last : ℕ → Bool → Option Refusal
-  last i t =
-      unless (cond t (by_letter (record_at sh i) (complete_as sh (record_at sh i))) (initial_item sh))
-      (Incomplete i)
+  last i t = unless (cond t (complete (record_at sh i)) (initial_item sh)) (Incomplete i)
 
-  module _ (i : ℕ) (r : Record) (e : Some r ≡ by_place sh i) (b : Bool) where
-    pub unsafe_here : b ≡ safe r → unsafe_refused sh i ≡ unless b (Unsafe i)
-    unsafe_here h =
-        let (lt, is) = place_some sh i r e in ap (λ t. unless t (Unsafe i)) (sym (h ∙ ap safe is))
-
-    pub incomplete_here : b ≡ complete r → incomplete_refused sh i ≡ unless b (Incomplete i)
-    incomplete_here h =
-        let (lt, is) = place_some sh i r e in
-        ap (last i) (lt-ltb i (count sh) lt) ∙ ap (λ t. unless t (Incomplete i)) (sym (h ∙ ap complete is))
+  pub complete_here : (i : ℕ) → i < count sh → incomplete_refused sh i ≡ unless (complete (record_at sh i)) (Incomplete i)
+  complete_here i lt = ap (last i) (lt-ltb i (count sh) lt)
 
   -- behind the last record, the initial item
-  pub initial_here : (i : ℕ) → None ≡ by_place sh i → (b : Bool) → b ≡ initial_item sh →
-      incomplete_refused sh i ≡ unless b (Incomplete i)
-  initial_here i e b h =
-      ap (last i) (le-ltb i (count sh) (place_none sh i e)) ∙ ap (λ t. unless t (Incomplete i)) (sym h)
+  pub initial_here : incomplete_refused sh (count sh) ≡ unless (initial_item sh) (Incomplete (count sh))
+  initial_here = ap (last (count sh)) (le-ltb (count sh) (count sh) (omega arith))
 
 -- WHAT THE TABLE'S TESTS SAY OF A RECORD
 

@@ -1,5 +1,5 @@
 //! The checking of a sheet.
-ghost use Rattle.std.specs.Prelude.{◌≡◌, ℕ};
+ghost use Rattle.std.specs.Prelude.{◌≡◌, ℕ, Some, None, IfOk, IfErr};
 ghost use Rattle.layout.specs.Records.{sheet};
 ghost use Rattle.layout.specs.Refusals.{answered, held};
 ghost use Rattle.layout.specs.Practice.{practice_bytes};
@@ -23,6 +23,17 @@ impl<'a> CheckedSheet<'a> {
         }
     }
 
+    /// The sheet that `bytes` hold, if they meet every condition, or the first that they fail.
+    pub fn from_bytes(bytes: &'a [u8]) -> Result<CheckedSheet<'a>, Refusal>
+        ensures ok { IfOk result (λ s. (verdict_on (sheet bytes.now) ≡ None) × (contents s ≡ bytes.now)) }
+        ensures err { IfErr result (λ x. verdict_on (sheet bytes.now) ≡ Some x) }
+    {
+        let raw = RawSheet::from_bytes(bytes)?;
+        check_safety(&raw)?;
+        check_completeness(&raw)?;
+        Ok(CheckedSheet { raw })
+    }
+
     /// Puts `bytes` into a place that holds a checked sheet, if they meet every condition; else the place stays as it is.
     pub fn check(place: &mut CheckedSheet<'a>, bytes: &'a [u8]) -> Result<(), Refusal>
         ensures answer { result ≡ answered (verdict_on (sheet bytes.now)) }
@@ -30,11 +41,7 @@ impl<'a> CheckedSheet<'a> {
         ensures exact { Exact result bytes.now }
         ensures told { Told result bytes.now }
     {
-        let mut raw = place.raw;
-        RawSheet::open(&mut raw, bytes)?;
-        check_safety(&raw)?;
-        check_completeness(&raw)?;
-        *place = CheckedSheet { raw };
+        *place = CheckedSheet::from_bytes(bytes)?;
         Ok(())
     }
 
@@ -56,6 +63,6 @@ impl<'a> CheckedSheet<'a> {
 pub fn verdict(bytes: &[u8]) -> Result<(), Refusal>
     ensures { result ≡ answered (verdict_on (sheet bytes.now)) }
 {
-    let mut place = CheckedSheet::practice();
-    CheckedSheet::check(&mut place, bytes)
+    CheckedSheet::from_bytes(bytes)?;
+    Ok(())
 }

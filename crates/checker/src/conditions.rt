@@ -3,6 +3,7 @@ ghost use Rattle.std.specs.Prelude.{◌≡◌, ℕ};
 ghost use Rattle.layout.specs.Refusals.{answered};
 ghost use Rattle.layout.specs.Opening.{by_letter};
 ghost use Rattle.layout.specs.Checking.{safe_as, complete_as};
+ghost use Rattle.naming.specs.Failing.{FirstFailing};
 ghost use Rattle.sheet.specs.Contents.{sheet_in};
 ghost use Rattle.checker.specs.Judged.{unsafe_found, incomplete_found};
 
@@ -38,33 +39,42 @@ fn is_complete(raw: &RawSheet<'_>, row: Record) -> bool
     }
 }
 
+/// The first record that is not safe, by its place.
+fn first_unsafe(raw: &RawSheet<'_>) -> Option<usize>
+    ensures { FirstFailing (sheet_in raw.now) (λ row. by_letter row (safe_as (sheet_in raw.now) row)) result }
+{
+    raw.rows()
+        .iter()
+        .position(|row| !is_safe(raw, Record::from(*row)))
+}
+
+/// The first record that is not complete, by its place.
+fn first_incomplete(raw: &RawSheet<'_>) -> Option<usize>
+    ensures { FirstFailing (sheet_in raw.now) (λ row. by_letter row (complete_as (sheet_in raw.now) row)) result }
+{
+    raw.rows()
+        .iter()
+        .position(|row| !is_complete(raw, Record::from(*row)))
+}
+
 pub(crate) fn check_safety(raw: &RawSheet<'_>) -> Result<(), Refusal>
     ensures { result ≡ answered (unsafe_found (sheet_in raw.now)) }
 {
-    let mut i = 0;
-    while let Some(row) = raw.record(i) {
-        if !is_safe(raw, row) {
-            return Err(Refusal::Unsafe { record: i as u32 });
-        }
-        i += 1;
+    match first_unsafe(raw) {
+        Some(i) => Err(Refusal::Unsafe { record: i as u32 }),
+        None => Ok(()),
     }
-    Ok(())
 }
 
 /// Behind the last record, the item by which a reading begins.
 pub(crate) fn check_completeness(raw: &RawSheet<'_>) -> Result<(), Refusal>
     ensures { result ≡ answered (incomplete_found (sheet_in raw.now)) }
 {
-    let mut i = 0;
-    while let Some(row) = raw.record(i) {
-        if !is_complete(raw, row) {
-            return Err(Refusal::Incomplete { record: i as u32 });
-        }
-        i += 1;
-    }
-    if initial_item_is_there(raw) {
-        Ok(())
-    } else {
-        Err(Refusal::Incomplete { record: i as u32 })
+    match first_incomplete(raw) {
+        Some(i) => Err(Refusal::Incomplete { record: i as u32 }),
+        None if initial_item_is_there(raw) => Ok(()),
+        None => Err(Refusal::Incomplete {
+            record: raw.records() as u32,
+        }),
     }
 }

@@ -1,2 +1,2 @@
-pub mod Short
 pub mod Acts
+pub mod Rows

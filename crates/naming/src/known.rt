@@ -1,27 +1,14 @@
 //! What a sorted sheet has a record for.
-ghost use Rattle.std.specs.Prelude.{◌≡◌, ℕ, ◌+◌, ◌<◌, ◌≤◌};
+ghost use Rattle.std.specs.Prelude.{◌≡◌, ℕ};
 ghost use Rattle.layout.specs.Choices.{present};
-ghost use Rattle.layout.specs.Records.{count as count_of};
 ghost use Rattle.layout.specs.Meaning.{placed};
 ghost use Rattle.layout.specs.Opening.{has_state, has_production, has_nonterminal, has_symbol, has_target};
 ghost use Rattle.sorted.specs.Contents.{sheet_in};
-ghost use Rattle.sorted.specs.Found.{taken};
 
 use layout::Letter;
-use records::Record;
 use sorted::SortedSheet;
 use syntax::Symbol;
 use table::Action;
-
-pub(crate) fn record_at(sorted: &SortedSheet<'_>, i: usize) -> Record
-    requires { i < count_of (sheet_in sorted.now) }
-    ensures { result ≡ taken (sheet_in sorted.now) i }
-{
-    match sorted.record(i) {
-        Some(record) => record,
-        None => unreachable(),
-    }
-}
 
 pub(crate) fn has(sorted: &SortedSheet<'_>, letter: Letter, a: u8, b: u8) -> bool
     ensures { result ≡ present (placed (sheet_in sorted.now) letter a b 0) }
@@ -62,7 +49,6 @@ pub(crate) fn has_target(sorted: &SortedSheet<'_>, action: Action) -> bool
     match action {
         Action::Shift(t) => has_state(sorted, t),
         Action::Reduce(p) => has_production(sorted, p),
-        Action::Accept => true,
-        Action::Reject => true,
+        Action::Accept | Action::Reject => true,
     }
 }

@@ -1,25 +1,25 @@
 //! Every thing that is named is there, without a gap.
-ghost use Rattle.std.specs.Prelude.{◌≡◌, ℕ, ◌+◌, ◌<◌, ◌≤◌, true, false};
+ghost use Rattle.std.specs.Prelude.{◌≡◌, ℕ, true};
 ghost use Rattle.layout.specs.Choices.{given, implies, every, below};
-ghost use Rattle.layout.specs.Records.{sixteen, count as count_of, record_at, at, maybe_symbol, symbols};
-ghost use Rattle.layout.specs.Records.{member as member_of};
+ghost use Rattle.layout.specs.Records.{sixteen, at, maybe_symbol, symbols, member as member_of};
 ghost use Rattle.layout.specs.Refusals.{answered};
-ghost use Rattle.layout.specs.Opening.{has_state, has_symbol, no_gap, names_known, names_fit, has_letter};
+ghost use Rattle.layout.specs.Opening.{has_state, has_symbol, no_gap, names_known, names_fit};
 ghost use Rattle.layout.specs.Opening.{has_kind, has_all_kinds, names_found};
 ghost use Rattle.records.specs.Parts.{symbol_in};
 ghost use Rattle.sorted.specs.Contents.{sheet_in};
-ghost use Rattle.naming.specs.Short.{Short};
+ghost use Rattle.naming.specs.Failing.{FirstFailing};
 
-use crate::known::{
-    has, has_nonterminal, has_production, has_state, has_symbol, has_target, record_at,
-};
+use crate::known::{has, has_nonterminal, has_production, has_state, has_symbol, has_target};
+use hinted::contains;
 use layout::{Letter, Refusal};
-use records::{ADDED, Record, code, member};
+use records::{Record, code};
 use sorted::SortedSheet;
+use table::ADDED;
 
 fn has_symbol_at(sorted: &SortedSheet<'_>, row: Record, k: u8) -> bool
     ensures { result ≡ given true (has_symbol (sheet_in sorted.now)) (symbol_in row.bytes k) }
 {
+    // A match, since nothing is known of the call of a closure that holds the sheet.
     match row.symbol(k) {
         None => true,
         Some(symbol) => has_symbol(sorted, symbol),
@@ -28,33 +28,16 @@ fn has_symbol_at(sorted: &SortedSheet<'_>, row: Record, k: u8) -> bool
 
 /// The symbols of a payload.
 fn has_symbols(sorted: &SortedSheet<'_>, row: Record) -> bool
-    requires { at row.bytes 5 ≤ 8 }
     ensures { result ≡ every (has_symbol (sheet_in sorted.now)) (symbols row.bytes (at row.bytes 5)) }
 {
-    for k in 0..row.f2() {
-        if !has_symbol_at(sorted, row, k) {
-            return false;
-        }
-    }
-    true
-}
-
-fn has_if_member(sorted: &SortedSheet<'_>, set: u64, s: u8) -> bool
-    ensures { result ≡ implies (member_of sixteen set s) (has_state (sheet_in sorted.now) s) }
-{
-    !member(set, s) || has_state(sorted, s)
+    (0..row.f2()).all(|k| has_symbol_at(sorted, row, k))
 }
 
 /// Every state of a set.
 fn has_states(sorted: &SortedSheet<'_>, set: u64) -> bool
     ensures { result ≡ below 64 (λ s. implies (member_of sixteen set s) (has_state (sheet_in sorted.now) s)) }
 {
-    for s in 0..64u8 {
-        if !has_if_member(sorted, set, s) {
-            return false;
-        }
-    }
-    true
+    (0..64).all(|s| !contains(set, s) || has_state(sorted, s))
 }
 
 /// Numbers from 0 without a gap: the one before has its record too.
@@ -74,6 +57,7 @@ fn has_no_gap(sorted: &SortedSheet<'_>, row: Record, letter: Letter) -> bool
 fn enters_known(sorted: &SortedSheet<'_>, row: Record) -> bool
     ensures { result ≡ given true (has_symbol (sheet_in sorted.now)) (maybe_symbol (at row.bytes 4)) }
 {
+    // A match, since nothing is known of the call of a closure that holds the sheet.
     match row.incoming() {
         None => true,
         Some(symbol) => has_symbol(sorted, symbol),
@@ -82,7 +66,6 @@ fn enters_known(sorted: &SortedSheet<'_>, row: Record) -> bool
 
 /// What a record names has its own record.
 fn knows_names(sorted: &SortedSheet<'_>, row: Record, letter: Letter) -> bool
-    requires { Short letter row.bytes }
     ensures { result ≡ names_known (sheet_in sorted.now) row.bytes letter }
 {
     let n = row.first();
@@ -103,33 +86,20 @@ fn knows_names(sorted: &SortedSheet<'_>, row: Record, letter: Letter) -> bool
     }
 }
 
-fn fits_names(sorted: &SortedSheet<'_>, i: usize) -> bool
-    requires { i < count_of (sheet_in sorted.now) }
-    ensures { result ≡ names_fit (sheet_in sorted.now) (record_at (sheet_in sorted.now) i) }
+fn fits_names(sorted: &SortedSheet<'_>, row: Record) -> bool
+    ensures { result ≡ names_fit (sheet_in sorted.now) row.bytes }
 {
-    let row = record_at(sorted, i);
+    // A match, since nothing is known of the call of a closure that holds the sheet.
     match row.letter() {
         None => false,
         Some(letter) => has_no_gap(sorted, row, letter) && knows_names(sorted, row, letter),
     }
 }
 
-fn begins(sorted: &SortedSheet<'_>, i: usize, letter: Letter) -> bool
-    requires { i < count_of (sheet_in sorted.now) }
-    ensures { result ≡ has_letter (sheet_in sorted.now) letter i }
-{
-    record_at(sorted, i).bytes[0] == code(letter)
-}
-
 fn has_kind(sorted: &SortedSheet<'_>, letter: Letter) -> bool
     ensures { result ≡ has_kind (sheet_in sorted.now) letter }
 {
-    for i in 0..sorted.records() {
-        if begins(sorted, i, letter) {
-            return true;
-        }
-    }
-    false
+    sorted.rows().iter().any(|row| row[0] == code(letter))
 }
 
 fn has_all_kinds(sorted: &SortedSheet<'_>) -> bool
@@ -138,18 +108,25 @@ fn has_all_kinds(sorted: &SortedSheet<'_>) -> bool
     has_kind(sorted, Letter::P) && (has_kind(sorted, Letter::S) && has_kind(sorted, Letter::N))
 }
 
+/// The first record of which something is not there, by its place.
+fn first_unfit(sorted: &SortedSheet<'_>) -> Option<usize>
+    ensures { FirstFailing (sheet_in sorted.now) (names_fit (sheet_in sorted.now)) result }
+{
+    sorted
+        .rows()
+        .iter()
+        .position(|row| !fits_names(sorted, Record::from(*row)))
+}
+
 /// Every named thing has its record, numbers have no gap, and there is a production, a state and a nonterminal.
 pub fn check_names(sorted: &SortedSheet<'_>) -> Result<(), Refusal>
     ensures { result ≡ answered (names_found (sheet_in sorted.now)) }
 {
-    let n = sorted.records();
-    for i in 0..n {
-        if !fits_names(sorted, i) {
-            return Err(Refusal::Absent { record: i as u32 });
-        }
+    match first_unfit(sorted) {
+        Some(i) => Err(Refusal::Absent { record: i as u32 }),
+        None if has_all_kinds(sorted) => Ok(()),
+        None => Err(Refusal::Absent {
+            record: sorted.records() as u32,
+        }),
     }
-    if !has_all_kinds(sorted) {
-        return Err(Refusal::Absent { record: n as u32 });
-    }
-    Ok(())
 }

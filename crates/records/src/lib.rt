@@ -9,30 +9,32 @@ ghost use Rattle.records.specs.Parts.{head_in, symbol_in};
 
 use layout::Letter;
 use syntax::{Production, Symbol};
-use table::Action;
+use table::{Action, LONGEST};
 
 mod range;
 
 /// The length of a record.
 pub const WIDTH: usize = 16;
 
-/// How many symbols a record holds at most.
-pub const LONGEST: u8 = 8;
-
 /// The symbol byte that stands for none.
 pub const NO_SYMBOL: u8 = 255;
-
-/// The number of the production that is added to every grammar: a whole text is one start.
-pub const ADDED: u8 = 254;
 
 /// Bytes 0 to 3 are the key (a letter, up to three numbers), 4 to 7 the fields, 8 to 15 the payload. What a method says
 /// of a record with another letter, or out of range, follows from the same bytes.
 #[derive(Clone, Copy)]
 pub struct Record {
-    pub bytes: [u8; 16],
+    pub bytes: [u8; WIDTH],
 }
 
-/// The byte of a letter.
+impl From<[u8; WIDTH]> for Record {
+    ghost from_gives = { λ bytes r. r ≡ record { bytes = bytes } };
+
+    fn from(bytes: [u8; WIDTH]) -> Record {
+        Record { bytes }
+    }
+}
+
+/// The byte of a letter: a match, so that a letter that is added later cannot be left out.
 pub fn code(letter: Letter) -> u8
     ensures { result ≡ code_of letter }
 {
@@ -52,14 +54,7 @@ pub fn code(letter: Letter) -> u8
 pub fn key_of(l: u8, a: u8, b: u8, c: u8) -> u32
     ensures { result ≡ key_of l a b c }
 {
-    ((l as u32 * 256 + a as u32) * 256 + b as u32) * 256 + c as u32
-}
-
-/// `x` is in a set: bit i is state or terminal i.
-pub fn member(set: u64, x: u8) -> bool
-    ensures { result ≡ member_of sixteen set x }
-{
-    x < 64 && (set >> x) % 2 == 1
+    u32::from_be_bytes([l, a, b, c])
 }
 
 /// The symbol that a byte stands for, if it stands for one.
@@ -77,6 +72,7 @@ impl Record {
     pub fn letter(self) -> Option<Letter>
         ensures { result ≡ letter_in self.bytes }
     {
+        // The letters stand here as the sheet format writes them.
         match self.bytes[0] as char {
             'A' => Some(Letter::A),
             'D' => Some(Letter::D),
@@ -91,15 +87,18 @@ impl Record {
     }
 
     /// The whole key as one number, by which records are in order.
+    #[tactic(auto, unfolding(layout::specs::Records::key))]
     pub fn key(self) -> u32
         ensures { result ≡ key_in self.bytes }
     {
-        key_of(self.bytes[0], self.bytes[1], self.bytes[2], self.bytes[3])
+        let [l, a, b, c, ..] = self.bytes;
+        key_of(l, a, b, c)
     }
 
     pub fn has_key(self, letter: Letter, a: u8, b: u8, c: u8) -> bool
         ensures { result ≡ has_key letter a b c self.bytes }
     {
+        // Byte by byte, which is faster at each look-up than to compare slices.
         (self.bytes[0] == code(letter) && self.bytes[1] == a)
             && (self.bytes[2] == b && self.bytes[3] == c)
     }
@@ -137,11 +136,13 @@ impl Record {
     }
 
     /// The payload as a set.
+    #[tactic(auto, unfolding(layout::specs::Records::payload))]
     pub fn payload(self) -> u64
         ensures { result ≡ payload_in sixteen self.bytes }
     {
-        let b = self.bytes;
-        u64::from_be_bytes([b[8], b[9], b[10], b[11], b[12], b[13], b[14], b[15]])
+        let mut payload = [0; 8];
+        payload.copy_from_slice(&self.bytes[8..]);
+        u64::from_be_bytes(payload)
     }
 
     /// The action of an A record.

@@ -1,28 +1,31 @@
 //! Whether the bytes of a record are in range.
-ghost use Rattle.std.specs.Prelude.{◌≡◌, ℕ, ◌+◌, ◌-◌, ◌<◌, ◌≤◌, nat_eq};
+ghost use Rattle.std.specs.Prelude.{◌≡◌, ◌==◌};
+ghost use Rattle.std.specs.List.{list_all};
 ghost use Rattle.layout.specs.declared.Letter.TheVariants.{A as Act, D, G, I, K, N, P, S};
-ghost use Rattle.layout.specs.Choices.{below};
-ghost use Rattle.layout.specs.Records.{sixteen, at};
+ghost use Rattle.layout.specs.Records.{sixteen};
 ghost use Rattle.layout.specs.Opening.{in_range, in_range_of, unused as unused_in, symbol_byte, symbol_bytes};
 ghost use Rattle.layout.specs.Opening.{action_bytes};
 
-use crate::{ADDED, LONGEST, NO_SYMBOL, Record};
+use crate::{NO_SYMBOL, Record};
 use layout::Letter;
-
-const STATES: u8 = 64;
-
-const TERMINALS: u8 = 32;
-
-const NONTERMINALS: u8 = 32;
-
-const PRODUCTIONS: u8 = 64;
-
-const DEEPEST: u8 = 8;
+use table::{ADDED, DEEPEST, NONTERMINALS, PRODUCTIONS, STATES, TERMINALS};
 
 fn is_symbol(b: u8) -> bool
     ensures { result ≡ symbol_byte b }
 {
-    (1 <= b && b < TERMINALS) || (64 <= b && b < 64 + NONTERMINALS)
+    (1..TERMINALS).contains(&b) || (64..64 + NONTERMINALS).contains(&b)
+}
+
+fn all_symbols(bytes: &[u8]) -> bool
+    ensures { result ≡ list_all symbol_byte bytes.now }
+{
+    bytes.iter().all(|b| is_symbol(*b))
+}
+
+fn no_symbols(bytes: &[u8]) -> bool
+    ensures { result ≡ list_all (λ b. b == 255) bytes.now }
+{
+    bytes.iter().all(|b| *b == NO_SYMBOL)
 }
 
 /// Shift to a state, reduce by a production, or accept.
@@ -40,46 +43,19 @@ fn action_fits(kind: u8, target: u8) -> bool
 impl Record {
     /// Bytes `from` to `to - 1` are zero.
     fn unused(self, from: usize, to: usize) -> bool
-        requires { (from ≤ to) × (to ≤ 16) }
         ensures { result ≡ unused_in self.bytes from to }
     {
-        for j in 0..to - from {
-            if self.bytes[from + j] != 0 {
-                return false;
-            }
-        }
-        true
-    }
-
-    fn all_symbols(self, n: usize) -> bool
-        requires { n ≤ 8 }
-        ensures { result ≡ below n (λ k. symbol_byte (at self.bytes (8 + k))) }
-    {
-        for k in 0..n {
-            if !is_symbol(self.bytes[8 + k]) {
-                return false;
-            }
-        }
-        true
-    }
-
-    fn no_symbols(self, n: usize) -> bool
-        requires { n ≤ 8 }
-        ensures { result ≡ below (8 - n) (λ k. nat_eq (at self.bytes (8 + n + k)) 255) }
-    {
-        for k in 0..8 - n {
-            if self.bytes[8 + n + k] != NO_SYMBOL {
-                return false;
-            }
-        }
-        true
+        self.bytes.iter().take(to).skip(from).all(|b| *b == 0)
     }
 
     /// `n` symbols in the payload, and then only the byte for none.
     fn symbols_fit(self, n: u8) -> bool
         ensures { result ≡ symbol_bytes sixteen self.bytes n }
     {
-        n <= LONGEST && self.all_symbols(n as usize) && self.no_symbols(n as usize)
+        let Some((symbols, rest)) = self.bytes[8..].split_at_checked(n as usize) else {
+            return false;
+        };
+        all_symbols(symbols) && no_symbols(rest)
     }
 
     fn action_in_range(self) -> bool
@@ -158,20 +134,25 @@ impl Record {
             && self.symbols_fit(self.f2())
     }
 
+    fn in_range_as(self, letter: Letter) -> bool
+        ensures { result ≡ in_range_of sixteen self.bytes letter }
+    {
+        match letter {
+            Letter::A => self.action_in_range(),
+            Letter::D => self.default_in_range(),
+            Letter::G => self.goto_in_range(),
+            Letter::I => self.item_in_range(),
+            Letter::K => self.past_in_range(),
+            Letter::N => self.nonterminal_in_range(),
+            Letter::P => self.production_in_range(),
+            Letter::S => self.state_in_range(),
+        }
+    }
+
     /// Every byte is in the range that its letter gives it, and no set is empty that must not be.
     pub fn in_range(self) -> bool
         ensures { result ≡ in_range sixteen self.bytes }
     {
-        match self.letter() {
-            None => false,
-            Some(Letter::A) => self.action_in_range(),
-            Some(Letter::D) => self.default_in_range(),
-            Some(Letter::G) => self.goto_in_range(),
-            Some(Letter::I) => self.item_in_range(),
-            Some(Letter::K) => self.past_in_range(),
-            Some(Letter::N) => self.nonterminal_in_range(),
-            Some(Letter::P) => self.production_in_range(),
-            Some(Letter::S) => self.state_in_range(),
-        }
+        self.letter().is_some_and(|letter| self.in_range_as(letter))
     }
 }

@@ -16,44 +16,32 @@ impl<'a> Table for RawSheet<'a> {
     ghost lawful = { λ s. lawful_of (contents s) s.opens };
 
     fn production(&self, p: u8) -> Option<Production> {
-        match self.production_record(p) {
-            None => None,
-            Some(record) => Some(record.production()),
-        }
+        self.production_record(p).map(|record| record.production())
     }
 
     fn right_symbol(&self, p: u8, k: u8) -> Option<Symbol> {
-        match self.production_record(p) {
-            None => None,
-            Some(record) => record.symbol(k),
-        }
+        self.production_record(p)?.symbol(k)
     }
 
     fn incoming(&self, s: u8) -> Option<Symbol> {
-        match self.state_record(s) {
-            None => None,
-            Some(record) => record.incoming(),
-        }
+        self.state_record(s)?.incoming()
     }
 
     fn default_reduction(&self, s: u8) -> Option<u8> {
-        match self.sorted.find(Letter::D, s, 0, 0) {
-            None => None,
-            Some(record) => Some(record.f1()),
-        }
+        self.sorted
+            .find(Letter::D, s, 0, 0)
+            .map(|record| record.f1())
     }
 
     fn action(&self, s: u8, a: u8) -> Action {
-        match self.sorted.find(Letter::A, s, a, 0) {
-            None => Action::Reject,
-            Some(record) => record.action(),
-        }
+        self.sorted
+            .find(Letter::A, s, a, 0)
+            .map_or(Action::Reject, |record| record.action())
     }
 
     fn goto(&self, s: u8, n: u8) -> Option<u8> {
-        match self.sorted.find(Letter::G, s, n, 0) {
-            None => None,
-            Some(record) => Some(record.f1()),
-        }
+        self.sorted
+            .find(Letter::G, s, n, 0)
+            .map(|record| record.f1())
     }
 }

@@ -17,44 +17,32 @@ impl<'a> Hinted for RawSheet<'a> {
     ghost bounded = { λ s. in_range_of (contents s) s.opens };
 
     fn past_length(&self, s: u8) -> u8 {
-        match self.state_record(s) {
-            None => 0,
-            Some(state) => state.f2(),
-        }
+        self.state_record(s).map_or(0, |state| state.f2())
     }
 
     fn past_symbol(&self, s: u8, k: u8) -> Option<Symbol> {
-        match self.state_record(s) {
-            None => None,
-            Some(state) => state.symbol(k),
-        }
+        self.state_record(s)?.symbol(k)
     }
 
     fn past_set(&self, s: u8, depth: u8) -> Option<u64> {
-        match self.sorted.find(Letter::K, s, depth, 0) {
-            None => None,
-            Some(past) => Some(past.payload()),
-        }
+        self.sorted
+            .find(Letter::K, s, depth, 0)
+            .map(|past| past.payload())
     }
 
     fn look_aheads(&self, s: u8, p: u8, dot: u8) -> u64 {
-        match self.sorted.find(Letter::I, s, p, dot) {
-            None => 0,
-            Some(item) => item.payload(),
-        }
+        self.sorted
+            .find(Letter::I, s, p, dot)
+            .map_or(0, |item| item.payload())
     }
 
     fn nullable(&self, n: u8) -> bool {
-        match self.nonterminal_record(n) {
-            None => false,
-            Some(nonterminal) => nonterminal.f1() == 1,
-        }
+        self.nonterminal_record(n)
+            .is_some_and(|nonterminal| nonterminal.f1() == 1)
     }
 
     fn firsts(&self, n: u8) -> u64 {
-        match self.nonterminal_record(n) {
-            None => 0,
-            Some(nonterminal) => nonterminal.payload(),
-        }
+        self.nonterminal_record(n)
+            .map_or(0, |nonterminal| nonterminal.payload())
     }
 }

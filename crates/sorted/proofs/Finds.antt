@@ -1,5 +1,6 @@
 -- What a search by key finds, as a value, and what is read in it.
-use Rattle.std.proofs.Common.{◌≡◌, ℕ, ◌+◌, ◌<◌, ◌≤◌, true, false, cond, List, get_or, is_some, Some, None, Option, sym, refl, ap, ◌∙◌, ⊎_elim, arith}
+use Rattle.std.proofs.Common.{◌≡◌, ℕ, ◌+◌, ◌<◌, ◌≤◌, Bool, true, false, cond, List, get_or, slice_index, is_some, Some, None, Option, sym, refl, ap, ◌∙◌, ⊎_elim, arith}
+use Rattle.std.specs.Bool.{then_some}
 use Rattle.std.proofs.lemmas.Bool.{cases_lt, lt-ltb, le-ltb}
 use Rattle.records.specs.declared.Record.{Record}
 use Rattle.layout.specs.declared.Letter.{Letter}
@@ -8,7 +9,7 @@ use Rattle.layout.specs.Records.{Sheet, sheet, count, record_at, code, key_of, h
 use Rattle.layout.specs.Search.{position, starts, index_of}
 use Rattle.wellformed.specs.Formed.{Sorted}
 use Rattle.wellformed.proofs.Tests.{some_same, none_some}
-use Rattle.wellformed.proofs.Seeks.{search_range, search_finds, search_misses}
+use Rattle.wellformed.proofs.Seeks.{Between, letter_range, search_range, search_finds, search_misses}
 use Rattle.sorted.specs.Found.{taken, by_place, by_key, from_key}
 
 module _ (sh : Sheet) where
@@ -85,3 +86,19 @@ module _ (bs : List ℕ) (w : Sorted (sheet bs)) (l : Letter) where
     nothing_there e =
         let le = place_none (sheet bs) place e in
         sym (ap (mapped (taken (sheet bs))) (search_misses _ w l a b c place refl (λ lt. absurd (omega arith))))
+
+    -- the record from a key on, if it has that key
+    pub found_if : (r : Record) → Some r ≡ from_key (sheet bs) l a b c →
+        then_some (has_key l a b c r.bytes) r ≡ by_key (sheet bs) l a b c
+    found_if r e = go (has_key l a b c r.bytes) refl
+      where
+        go : (h : Bool) → has_key l a b c r.bytes ≡ h → then_some h r ≡ by_key (sheet bs) l a b c
+        go true q = found_there r e q
+        go false q = missed_there r e q
+
+  -- a search for a key may go on within the letter's records
+  pub range_between : (a b c : ℕ) (bs' : List ℕ) (k s e : ℕ) → bs' ≡ bs → k ≡ key_of (code l) a b c →
+      s ≡ slice_index (starts (sheet bs)) (index_of l) → e ≡ slice_index (starts (sheet bs)) (index_of l + 1) →
+      a < 256 → b < 256 → c < 256 → Between (sheet bs') k s e
+  range_between a b c bs' k s e same key_is begins ends x y z =
+      simp (same, key_is, begins, ends) (letter_range (sheet bs) w l a b c x y z)

@@ -1,5 +1,5 @@
 -- The records of a sheet as values, by their place, their key or their number.
-use Rattle.std.specs.Prelude.{ℕ, cond, Some, None, Option, nat_lt}
+use Rattle.std.specs.Prelude.{ℕ, cond, List, Some, None, Option, nat_lt}
 use Rattle.records.specs.declared.Record.{Record}
 use Rattle.layout.specs.declared.Letter.{Letter}
 use Rattle.layout.specs.Choices.{mapped}
@@ -7,9 +7,13 @@ use Rattle.layout.specs.Records.{Sheet, count, record_at, code, key_of}
 use Rattle.layout.specs.Meaning.{placed}
 use Rattle.layout.specs.Search.{position, starts, index_of, by_number}
 
+-- the record with these bytes
+abbrev pub record_of : List ℕ → Record
+record_of bs = record { bytes = bs }
+
 -- the bytes of record i
 abbrev pub taken : Sheet → ℕ → Record
-taken sh i = record { bytes = record_at sh i }
+taken sh i = record_of (record_at sh i)
 
 -- record i, if there are so many
 abbrev pub by_place : Sheet → ℕ → Option Record

@@ -1,18 +1,18 @@
 //! The passes over records one by one: length, order, range.
-ghost use Rattle.std.specs.Prelude.{◌≡◌, ℕ, ◌<◌, ◌≤◌, length};
-ghost use Rattle.layout.specs.Records.{sheet, count as count_of};
+ghost use Rattle.std.specs.Prelude.{◌≡◌, ◌≤◌, true, length, nat_lt, IfOk, MatchResult};
+ghost use Rattle.layout.specs.Choices.{given};
+ghost use Rattle.layout.specs.Records.{sheet};
 ghost use Rattle.layout.specs.Refusals.{answered, held};
 ghost use Rattle.layout.specs.Practice.{practice_bytes};
-ghost use Rattle.layout.specs.Opening.{in_order, length_fits, length_found, records_found, sorting};
-ghost use Rattle.wellformed.specs.Formed.{Sorted};
+ghost use Rattle.layout.specs.Opening.{length_fits, length_found, records_found, sorting};
 ghost use Rattle.sorted.specs.Contents.{contents};
 
-use crate::bytes::{count, key_at, record_of};
 use crate::held::SortedSheet;
-use crate::lookup::starts;
+use crate::ordered::Ordered;
 use crate::practice::PRACTICE;
+use crate::rows::rows_of;
 use layout::Refusal;
-use records::WIDTH;
+use records::{Record, WIDTH};
 
 /// How many bytes a sheet has at most.
 const MOST_BYTES: usize = 65_520;
@@ -34,12 +34,11 @@ fn check_length(bytes: &[u8]) -> Result<(), Refusal>
     }
 }
 
-/// The key of record `i` is above the one before.
-fn in_order(bytes: &[u8], i: usize) -> bool
-    requires { i < count_of (sheet bytes.now) }
-    ensures { result ≡ in_order (sheet bytes.now) i }
+/// A key is above the one before it, if there is one.
+fn rises(before: Option<u32>, key: u32) -> bool
+    ensures { result ≡ given true (λ b. nat_lt b key) before }
 {
-    i == 0 || key_at(bytes, i - 1) < key_at(bytes, i)
+    before.is_none_or(|before| before < key)
 }
 
 /// Order and range, record by record.
@@ -47,13 +46,17 @@ fn check_records(bytes: &[u8]) -> Result<(), Refusal>
     requires { length bytes.now ≤ 65520 }
     ensures { result ≡ answered (records_found (sheet bytes.now)) }
 {
-    for i in 0..count(bytes) {
-        if !in_order(bytes, i) {
+    let mut before = None;
+    let rows = rows_of(bytes);
+    for (i, row) in rows.iter().enumerate() {
+        let record = Record::from(*row);
+        if !rises(before, record.key()) {
             return Err(Refusal::Order { record: i as u32 });
         }
-        if !record_of(bytes, i).in_range() {
+        if !record.in_range() {
             return Err(Refusal::Range { record: i as u32 });
         }
+        before = Some(record.key());
     }
     Ok(())
 }
@@ -65,13 +68,15 @@ fn inspect(bytes: &[u8]) -> Result<(), Refusal>
     check_records(bytes)
 }
 
-fn sorted_sheet<'a>(bytes: &'a [u8]) -> SortedSheet<'a>
-    requires { Sorted (sheet bytes.now) }
-    ensures { contents result ≡ bytes.now }
-{
-    SortedSheet {
-        bytes,
-        starts: starts(bytes),
+impl<'a> Ordered<'a> {
+    /// The sheet, with the places of its letters.
+    fn located(self) -> SortedSheet<'a>
+        ensures { contents result ≡ self.entry.bytes.now }
+    {
+        SortedSheet {
+            bytes: self.bytes,
+            starts: self.starts(),
+        }
     }
 }
 
@@ -80,7 +85,16 @@ impl<'a> SortedSheet<'a> {
     pub fn practice() -> SortedSheet<'a>
         ensures { contents result ≡ practice_bytes }
     {
-        sorted_sheet(PRACTICE)
+        Ordered { bytes: PRACTICE }.located()
+    }
+
+    /// The sheet with these bytes, if they are sorted.
+    pub fn from_bytes(bytes: &'a [u8]) -> Result<SortedSheet<'a>, Refusal>
+        ensures answer { MatchResult result (λ s. sorting (sheet bytes.now) ≡ None) (λ x. sorting (sheet bytes.now) ≡ Some x) }
+        ensures held { IfOk result (λ s. contents s ≡ bytes.now) }
+    {
+        inspect(bytes)?;
+        Ok(Ordered { bytes }.located())
     }
 
     /// Puts `bytes` into a place that holds a sorted sheet, if they are one; else the place stays as it is.
@@ -88,8 +102,7 @@ impl<'a> SortedSheet<'a> {
         ensures answer { result ≡ answered (sorting (sheet bytes.now)) }
         ensures place { contents place.new ≡ held result bytes.now (contents place.old) }
     {
-        inspect(bytes)?;
-        *place = sorted_sheet(bytes);
+        *place = SortedSheet::from_bytes(bytes)?;
         Ok(())
     }
 }

@@ -1,12 +1,15 @@
-use Rattle.std.proofs.Common.{sym, arith}
-use Rattle.wellformed.proofs.Loops.{some_start, some_more, some_hit}
+use Rattle.std.proofs.Common.{◌≡◌, ℕ, true, false, List, ◌==◌, tests, rules, ◌∙◌}
+use Rattle.std.proofs.lemmas.Iterator.{cases_from_any, YieldsList-from_slice}
+use Rattle.layout.specs.Records.{at, code}
+use Rattle.sorted.specs.Contents.{sheet_in, rows_in}
+use Rattle.naming.proofs.Rows.{some_row}
 use Rattle.naming.proofs.names.has_kind.Goals as goal
 
-pub loop-i-init : goal.loop-i-init
-loop-i-init c = some_start _
-
-pub returns-then-begins : goal.returns-then-begins
-returns-then-begins c = sym (some_hit _ _ c.loop-i.i (omega arith) (sym c.if-begins.ensures))
-
-pub loop-i-preserved : goal.loop-i-preserved
-loop-i-preserved c = some_more _ c.loop-i.i c.loop-i.invariant (sym c.if-begins.ensures)
+pub returns : goal.returns
+returns c =
+    let sh = sheet_in c.args.sorted.now in
+    let begins = λ (row : List ℕ). at row 0 == code c.args.letter in
+    some_row sh begins c.any.result
+    (cases_from_any c.any.new.self _ c.any.result (λ row. begins row ≡ true) (λ row. begins row ≡ false) c.any.ensures.ran
+    (YieldsList-from_slice (rows_in sh) (c.iter.ensures.rest ∙ c.rows.ensures.rows))
+    (λ x q k. search (rules, tests)) (λ x q k. search (rules, tests)))

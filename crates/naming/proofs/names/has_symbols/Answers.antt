@@ -1,27 +1,21 @@
-use Rattle.std.proofs.Common.{◌≡◌, ℕ, true, sym, ◌∙◌, subst, arith}
+use Rattle.std.proofs.Common.{◌≡◌, ℕ, true, false, sym, refl, ◌∙◌, tests, rules}
+use Rattle.std.proofs.lemmas.Iterator.{cases_from_all, YieldsList-from_range}
 use Rattle.layout.specs.Choices.{given, below}
-use Rattle.layout.specs.Records.{sheet, at}
+use Rattle.layout.specs.Records.{at}
 use Rattle.layout.specs.Opening.{has_symbol}
 use Rattle.records.specs.Parts.{symbol_in}
-use Rattle.wellformed.proofs.Loops.{below_start, below_more, below_fails}
-use Rattle.naming.proofs.Short.{each_symbol}
+use Rattle.sorted.specs.Contents.{sheet_in}
+use Rattle.naming.proofs.Rows.{below_is, each_symbol}
 use Rattle.naming.proofs.names.has_symbols.Goals as goal
-
-pub loop-k-init : goal.loop-k-init
-loop-k-init c = below_start _
-
-pub returns-then-not-has_symbol_at : goal.returns-then-not-has_symbol_at
-returns-then-not-has_symbol_at c =
-    let n = at c.args.row.bytes 5 in
-    sym (each_symbol _ c.args.row.bytes c.requires
-    ∙ below_fails _ n c.loop-k.k (omega arith) (sym c.if-not-has_symbol_at.ensures))
-
-pub loop-k-preserved : goal.loop-k-preserved
-loop-k-preserved c = below_more _ c.loop-k.k c.loop-k.invariant (sym c.if-not-has_symbol_at.ensures)
 
 pub returns : goal.returns
 returns c =
-    let whole : c.loop-k.k ≡ at c.args.row.bytes 5 = omega arith in
-    let known = has_symbol (sheet c.args.sorted.now.bytes.now) in
-    let f = λ (k : ℕ). given true known (symbol_in c.args.row.bytes k) in
-    sym (each_symbol _ c.args.row.bytes c.requires ∙ subst (λ n. below n f ≡ true) whole c.loop-k.invariant)
+    let known = has_symbol (sheet_in c.args.sorted.now) in
+    let row = c.args.row.bytes in
+    let f = λ (k : ℕ). given true known (symbol_in row k) in
+    let all : c.all.result ≡ below (at row 5) f =
+    below_is f (at row 5) c.all.result
+    (cases_from_all c.all.new.self _ c.all.result (λ k. f k ≡ true) (λ k. f k ≡ false) c.all.ensures.ran
+    (YieldsList-from_range 0 c.f2.result (at row 5) refl (search rules)) (λ x q k. search (rules, tests)) (λ x q k. search (rules, tests)))
+    in
+    all ∙ sym (each_symbol known row (search rules) refl)

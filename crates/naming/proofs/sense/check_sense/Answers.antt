@@ -1,21 +1,24 @@
-use Rattle.std.proofs.Common.{sym, arith}
-use Rattle.wellformed.proofs.Firsts.{first_more}
+use Rattle.std.proofs.Common.{sym, refl, ap, arith}
+use Rattle.layout.specs.declared.Refusal.TheVariants.{Contradiction}
+use Rattle.layout.specs.Refusals.{answered}
+use Rattle.layout.specs.Records.{count}
+use Rattle.layout.specs.Opening.{makes_sense, sense_refused}
 use Rattle.wellformed.proofs.Formed.{sorted_of, few_records}
-use Rattle.wellformed.proofs.Loops.{first_start, unless_fails, unless_passes, refuses_at, refuses_nothing}
+use Rattle.sorted.specs.Contents.{sheet_in}
+use Rattle.naming.proofs.Rows.{passed, refused_first}
 use Rattle.naming.proofs.sense.check_sense.Goals as goal
 
-pub loop-i-init : goal.loop-i-init
-loop-i-init c = first_start _
-
 pub overflow_cast-result : goal.overflow_cast-result
-overflow_cast-result c = omega (arith, few_records _ (sorted_of _ c.args.sorted.now.sorted))
+overflow_cast-result c =
+    omega (arith, few_records _ (sorted_of _ c.args.sorted.now.sorted), c.in-Some.ensures.0)
 
-pub returns-then-not-has_sense : goal.returns-then-not-has_sense
-returns-then-not-has_sense c =
-    refuses_at _ _ _ _ c.loop-i.invariant (unless_fails _ (sym c.if-not-has_sense.ensures)) (omega arith)
+pub returns-in-Some : goal.returns-in-Some
+returns-in-Some c =
+    let sh = sheet_in c.args.sorted.now in
+    refused_first sh (makes_sense sh) (sense_refused sh) Contradiction (λ k lt. refl) (count sh) (omega arith) _ c.in-Some.ensures
 
-pub loop-i-preserved : goal.loop-i-preserved
-loop-i-preserved c = first_more _ _ c.loop-i.invariant (unless_passes _ (sym c.if-not-has_sense.ensures))
-
-pub returns : goal.returns
-returns c = refuses_nothing _ _ c.loop-i.i c.loop-i.invariant (omega arith)
+pub returns-in-None : goal.returns-in-None
+returns-in-None c =
+    let sh = sheet_in c.args.sorted.now in
+    let clean = passed sh (makes_sense sh) (sense_refused sh) Contradiction (λ k lt. refl) (count sh) (omega arith) c.in-None.ensures in
+    sym (ap answered clean)

@@ -1,12 +1,14 @@
-use Rattle.std.proofs.Common.{ℕ, Some, Option, sym, ap, ◌∙◌}
-use Rattle.layout.specs.Records.{sheet, at}
-use Rattle.wellformed.proofs.Tests.{mapped_some}
-use Rattle.wellformed.proofs.Lookups.{right_length_at}
-use Rattle.sorted.specs.Found.{taken}
+use Rattle.std.proofs.Common.{◌≡◌, ◌∙◌, rules}
+use Rattle.layout.specs.declared.Letter.TheVariants.{P}
+use Rattle.layout.specs.Choices.{mapped}
+use Rattle.layout.specs.Records.{byte}
+use Rattle.layout.specs.Meaning.{placed}
+use Rattle.sorted.specs.Contents.{sheet_in}
+use Rattle.naming.proofs.Rows.{right_length_is}
 use Rattle.naming.proofs.sense.length_of.Goals as goal
 
-pub returns-in-Some : goal.returns-in-Some
-returns-in-Some c =
-    let (i, e, is) = mapped_some (taken (sheet c.args.sorted.now.bytes.now)) _ _ (sym c.in-Some.ensures) in
-    ap {B = Option ℕ} Some c.f2.ensures ∙ ap {B = Option ℕ} (λ r. Some (at r.bytes 5)) (sym is)
-    ∙ sym (right_length_at _ c.args.p i c.if-p-eq-ADDED.false e)
+pub returns : goal.returns
+returns c =
+    let sh = sheet_in c.args.sorted.now in
+    let read : c.map.result ≡ mapped (λ i. byte sh i 5) (placed sh P c.args.p 0 0) = search rules in
+    read ∙ right_length_is sh c.args.p c.if-p-eq-ADDED.false

@@ -1,13 +1,13 @@
-use Rattle.std.proofs.Common.{sym, arith}
-use Rattle.std.proofs.lemmas.Bool.Decides.{nat_tests}
-use Rattle.wellformed.proofs.Loops.{below_start, below_more, below_fails}
+use Rattle.std.proofs.Common.{◌==◌, refl, ◌∙◌, rules, tests}
+use Rattle.std.proofs.lemmas.Iterator.{YieldsList-from_slice, YieldsList-from_take}
+use Rattle.std.proofs.lemmas.Iterator.Adapters.{YieldsList-from_skip}
+use Rattle.std.proofs.lemmas.Iterator.Search.{all_from_yields_List}
+use Rattle.records.proofs.Bytes.{all_range}
 use Rattle.records.proofs.Record.unused.Goals as goal
 
-pub loop-j-init : goal.loop-j-init
-loop-j-init c = below_start _
-
-pub returns-then-self-from-ne0 : goal.returns-then-self-from-ne0
-returns-then-self-from-ne0 c = sym (below_fails _ _ c.loop-j.j (omega arith) (grind (arith, nat_tests)))
-
-pub loop-j-preserved : goal.loop-j-preserved
-loop-j-preserved c = below_more _ c.loop-j.j c.loop-j.invariant (grind (arith, nat_tests))
+pub returns : goal.returns
+returns c =
+    all_from_yields_List (λ b. b == 0) _ _ c.all.result c.all.ensures.ran
+    (YieldsList-from_skip c.args.from (YieldsList-from_take c.args.to (YieldsList-from_slice c.args.self.bytes cc) cc) cc)
+    (λ x b q k. search (rules, tests))
+    ∙ all_range (λ b. b == 0) refl c.args.self.bytes c.args.from c.args.to

@@ -1,13 +1,14 @@
-use Rattle.std.proofs.Common.{sym, ap, ◌∙◌}
-use Rattle.layout.specs.Records.{sheet, at}
-use Rattle.wellformed.proofs.Tests.{mapped_some}
-use Rattle.sorted.specs.Found.{taken}
-use Rattle.sheet.specs.Contents.{contents}
+use Rattle.std.proofs.Common.{◌≡◌, ◌∙◌, rules}
+use Rattle.layout.specs.declared.Letter.TheVariants.{S}
+use Rattle.layout.specs.Choices.{given}
+use Rattle.layout.specs.Records.{byte}
+use Rattle.layout.specs.Meaning.{placed}
+use Rattle.sheet.specs.Contents.{sheet_in}
 use Rattle.sheet.proofs.Parts.{past_length_is}
 use Rattle.sheet.proofs.hints.RawSheetHinted.past_length.Goals as goal
 
-pub returns-in-Some : goal.returns-in-Some
-returns-in-Some c =
-    let bs = contents c.args.self.now in
-    let (i, e, is) = mapped_some (taken (sheet bs)) _ _ (sym c.in-Some.ensures) in
-    c.f2.ensures ∙ ap (λ r. at r.bytes 5) (sym is) ∙ past_length_is bs c.args.s i e
+pub returns : goal.returns
+returns c =
+    let sh = sheet_in c.args.self.now in
+    let read : c.map_or.result ≡ given 0 (λ i. byte sh i 5) (placed sh S c.args.s 0 0) = search rules in
+    read ∙ past_length_is sh (placed sh S c.args.s 0 0)

@@ -1,18 +1,18 @@
-use Rattle.std.proofs.Common.{Option, sym, ap, ◌∙◌}
-use Rattle.syntax.specs.declared.Symbol.{Symbol}
-use Rattle.layout.specs.Records.{sheet}
+use Rattle.std.proofs.Common.{◌≡◌, None, ◌∙◌, rules}
 use Rattle.records.specs.Parts.{symbol_in}
-use Rattle.wellformed.proofs.Tests.{mapped_some}
+use Rattle.layout.specs.declared.Letter.TheVariants.{S}
+use Rattle.layout.specs.Choices.{given}
+use Rattle.layout.specs.Records.{sheet, record_at}
+use Rattle.layout.specs.Meaning.{placed}
 use Rattle.wellformed.proofs.Formed.{formed_of}
-use Rattle.sorted.specs.Found.{taken}
 use Rattle.sheet.specs.Contents.{contents}
 use Rattle.sheet.proofs.Parts.{past_symbol_is}
 use Rattle.sheet.proofs.hints.RawSheetHinted.past_symbol.Goals as goal
 
-pub returns-in-Some : goal.returns-in-Some
-returns-in-Some c =
+pub returns : goal.returns
+returns c =
     let bs = contents c.args.self.now in
     let w = formed_of (sheet bs) c.args.self.now.opens in
-    let (i, e, is) = mapped_some (taken (sheet bs)) _ _ (sym c.in-Some.ensures) in
-    c.symbol.ensures ∙ ap {B = Option Symbol} (λ r. symbol_in r.bytes c.args.k) (sym is)
-    ∙ past_symbol_is bs c.args.s i e w c.args.k
+    let o = placed (sheet bs) S c.args.s 0 0 in
+    let read : c.symbol.result ≡ given None (λ i. symbol_in (record_at (sheet bs) i) c.args.k) o = search rules in
+    read ∙ past_symbol_is bs w c.args.s c.args.k
