@@ -1,4 +1,5 @@
 -- An item, by its default reduction and by what stands behind its dot.
+use Rattle.std.proofs.Math.Bool.{or_comm}
 use Rattle.std.proofs.Common.{◌≡◌, ℕ, zero, suc, ◌+◌, ◌^◌, ◌<◌, Bool, false, ◌&&◌, ◌||◌, T, eqb, List, [], ◌∷◌, length, drop, Some, None, Option, sym, refl, ap, ◌∙◌, subst, ⊎_elim, arith}
 use Rattle.syntax.specs.declared.Symbol.{Symbol}
 use Rattle.syntax.specs.Grammar.{terminals, InRange, Every}
@@ -24,9 +25,10 @@ module _ (M : Automaton) (s q : ℕ) (is : M.default s ≡ Some q) where
   decides a = rw is refl
 
   pub by_default : (H : Hints) (p m : ℕ) (X : Set) → m < 2 ^ narrow → Bounded terminals X → Holds m X →
-      eqb q p || eqb m 0 ≡ done_reduces M H s p X
+      eqb m 0 || eqb q p ≡ done_reduces M H s p X
   by_default H p m X fits few in-m =
-      all_or_none m X fits few in-m (eqb q p)
+      or_comm (eqb m 0) (eqb q p)
+      ∙ all_or_none m X fits few in-m (eqb q p)
       ∙ (λ i. below terminals (λ a. implies (X a) (reduces_by p (sym (decides a) i))))
 
 -- WHAT STANDS BEHIND THE DOT

@@ -1,5 +1,5 @@
 -- The right sides of a lawful table, symbol by symbol, and what they begin with.
-use Rattle.std.proofs.Common.{◌≡◌, ℕ, zero, suc, ◌+◌, ◌<◌, ◌≤◌, Bool, true, false, cond, ◌&&◌, ◌||◌, eqb, List, [], ◌∷◌, length, drop, Some, None, Option, sym, refl, ap, ◌∙◌, subst, ⊎_elim, add-one, arith, eqb→eq}
+use Rattle.std.proofs.Common.{◌≡◌, ℕ, zero, suc, ◌+◌, ◌<◌, ◌≤◌, Bool, true, false, cond, ◌&&◌, ◌||◌, eqb, List, [], ◌∷◌, length, drop, Some, None, Option, sym, refl, ap, ◌∙◌, subst, ⊎_elim, arith, eqb→eq}
 use lib.Bits.{bit_or}
 use Rattle.syntax.specs.declared.Symbol.{Symbol}
 use Rattle.syntax.specs.declared.Symbol.TheVariants.{Terminal, Nonterminal}
@@ -10,28 +10,16 @@ use Rattle.table.specs.Hints.{Set, Hints, added, right_of}
 use Rattle.table.specs.Completeness.{nullable_symbol, first_symbol, nullable_all, first_of, wanted}
 use Rattle.layout.specs.Choices.{given}
 use Rattle.layout.specs.Records.{sixteen, member}
+use Rattle.hinted.proofs.Lists.{nth_some}
 use Rattle.hinted.specs.Sets.{Holds, InRange as HintsInRange}
 use Rattle.wellformed.proofs.Tests.{none_some, some_same, T_or, T_and}
-use Rattle.completeness.specs.Rights.{rights}
+use Rattle.completeness.specs.Rights.{rights, Begins}
 use Rattle.wellformed.proofs.Bits.{stands_either, stands_if}
 use Rattle.wellformed.proofs.Sets.{Bounded}
 
 -- ITEMS OF LISTS
 
 module _ {A : Type 0} where
-  -- there is a k-th: the rest of the list begins with it
-  pub nth_some : (xs : List A) (k : ℕ) (x : A) → nth xs k ≡ Some x → drop k xs ≡ x ∷ drop (k + 1) xs
-  nth_some [] k x e = absurd (none_some e)
-  nth_some (y ∷ ys) zero x e = ap (λ z. z ∷ ys) (some_same e)
-  nth_some (y ∷ ys) (suc k) x e =
-      nth_some ys k x e ∙ ap (λ n. x ∷ drop n (y ∷ ys)) (ap suc (add-one k) ∙ sym (add-one (suc k)))
-
-  pub nth_none : (xs : List A) (k : ℕ) → nth xs k ≡ None → drop k xs ≡ []
-  nth_none [] zero e = refl
-  nth_none [] (suc k) e = refl
-  nth_none (y ∷ ys) zero e = absurd (none_some (sym e))
-  nth_none (y ∷ ys) (suc k) e = nth_none ys k e
-
   pub nth_within : (xs : List A) (k : ℕ) (x : A) → nth xs k ≡ Some x → k < length xs
   nth_within [] k x e = absurd (none_some e)
   nth_within (y ∷ ys) zero x e = omega arith
@@ -108,6 +96,19 @@ module _ (H : Hints) (α : List Symbol) (k : ℕ) (X : Symbol) (is : nth α k �
         ∙ ap (λ b. member sixteen m a || b) (or_nothing (first_symbol H X a))
         ∙ ap (λ b. member sixteen m a || (first_symbol H X a || (b && first_of H behind a))) (sym e)
         ∙ ap (λ γ. member sixteen m a || first_of H γ a) (sym here)
+
+-- from k on nothing is left: the first terminals that m has are all that are behind j
+pub nothing_left : (H : Hints) (α : List Symbol) (j k m : ℕ) → drop k α ≡ [] →
+    nullable_all H (drop k α) ≡ nullable_all H (drop j α) →
+    ((a : ℕ) → member sixteen m a || first_of H (drop k α) a ≡ first_of H (drop j α) a) →
+    Begins (first_of H (drop j α)) (nullable_all H (drop j α)) (record { firsts = m; nullable = true })
+nothing_left H α j k m none same_nullable same_firsts = record {
+  firsts = λ a.
+      or_nothing (member sixteen m a)
+      ∙ ap (λ γ. member sixteen m a || first_of H γ a) (sym none)
+      ∙ same_firsts a;
+  nullable = ap (nullable_all H) (sym none) ∙ same_nullable;
+}
 
 -- first terminals are terminals
 module _ (H : Hints) (ranged : HintsInRange H) where

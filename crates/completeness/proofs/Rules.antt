@@ -1,6 +1,7 @@
 -- The productions of a lawful table, one by one.
 use Rattle.std.proofs.Common.{◌≡◌, ℕ, zero, suc, ◌+◌, ◌^◌, ◌<◌, ◌≤◌, Bool, true, false, cond, ◌&&◌, ◌||◌, T, eqb, List, [], ◌∷◌, length, Some, None, Option, sym, refl, ap, ◌∙◌, subst, ⊎_elim, add-one, arith}
 use mathlib.Core.Bool.{beq}
+use Rattle.std.proofs.Math.Bool.{or_comm}
 use Rattle.std.proofs.lemmas.Bool.{cases_order, eq-eqb, ne_eqb}
 use Rattle.std.proofs.lemmas.Bool.Decides.{nat_tests}
 use Rattle.syntax.specs.declared.Production.{Production}
@@ -15,7 +16,7 @@ use Rattle.layout.specs.Checking.{same_test}
 use Rattle.layout.specs.CompletenessTests.{rule_count, some_right, equations_hold}
 use Rattle.hinted.specs.Sets.{Holds, InRange as HintsInRange}
 use Rattle.wellformed.proofs.Tests.{none_some, some_same, T_some, T_given}
-use Rattle.completeness.specs.Rights.{rights}
+use Rattle.completeness.specs.Rights.{rights, BeginsAsAll}
 use Rattle.completeness.proofs.Bits.{same_is}
 use Rattle.completeness.proofs.Rights.{first_few}
 use Rattle.wellformed.proofs.Sets.{Bounded}
@@ -27,12 +28,6 @@ of_left G n f p = given false (λ r. let y = f r.right in cond (eqb r.left n) y 
 -- the test of production p itself, likewise
 abbrev pub if_left : Grammar → ℕ → (ℕ → Bool) → ℕ → Bool
 if_left G n f p = given true (λ r. let y = f p in implies (eqb r.left n) y) (G p)
-
-or_swap : (x y : Bool) → x || y ≡ y || x
-or_swap true true = refl
-or_swap true false = refl
-or_swap false true = refl
-or_swap false false = refl
 
 some_on : (f : ℕ → Bool) (p : ℕ) → some_below (p + 1) f ≡ f p || some_below p f
 unfolding some_below
@@ -62,6 +57,15 @@ module _ {X : Type 0} where
   run_stops (suc n) f (suc k) e = go (f 0) (run_stops n (λ j. f (suc j)) k e)
     where
       go : (o : Option X) → length (run n (λ j. f (suc j))) ≤ k → length (before o (run n (λ j. f (suc j)))) ≤ suc k
+      go None le = omega arith
+      go (Some x) le = omega arith
+
+  run_few : (n : ℕ) (f : ℕ → Option X) → length (run n f) ≤ n
+  unfolding run
+  run_few zero f = omega arith
+  run_few (suc n) f = go (f 0) (run_few n (λ j. f (suc j)))
+    where
+      go : (o : Option X) → length (run n (λ j. f (suc j))) ≤ n → length (before o (run n (λ j. f (suc j)))) ≤ suc n
       go None le = omega arith
       go (Some x) le = omega arith
 
@@ -113,6 +117,11 @@ module _ (M : Automaton) (lawful : Lawful narrow M) where
   unfolding rule_count
   all_counted p le e = let stop = run_stops productions G p (no_rule (G p) e) in omega arith
 
+  -- so they are below the most that there can be
+  pub none_beyond : (p : ℕ) → p ≤ rule_count G → productions ≤ p → p ≡ rule_count G
+  unfolding rule_count
+  none_beyond p le most = omega (arith, run_few productions G)
+
   -- what it makes of a test over the productions of n
 
   rights_are : (p : ℕ) (r : Rule) → p < productions → G p ≡ Some r → rights G p ≡ r.right
@@ -138,7 +147,7 @@ module _ (M : Automaton) (lawful : Lawful narrow M) where
 
     pub some_takes : x.left ≡ n → some_below p (of_left G n f) || f (rights G p) ≡ some_below (p + 1) (of_left G n f)
     some_takes own =
-        or_swap (some_below p (of_left G n f)) (f (rights G p))
+        or_comm (some_below p (of_left G n f)) (f (rights G p))
         ∙ ap (λ b. b || some_below p (of_left G n f)) (sym (takes own))
         ∙ sym (some_on (of_left G n f) p)
 
@@ -167,6 +176,15 @@ module _ (M : Automaton) (lawful : Lawful narrow M) where
       let (r, is, y) = T_given (λ r. cond (eqb r.left n) (first_of H r.right a) false) (G p) own in
       let first = passed (eqb r.left n) (first_of H r.right a) y in
       first_few H ranged r.right (lawful.rules p r is).symbols a first
+
+  -- the right sides of n among the first p productions, taken together, where these are all
+  pub together : (H : Hints) (n p m : ℕ) (b : Bool) → p ≡ rule_count G →
+      Holds m (λ a. some_below p (of_left G n (λ α. first_of H α a))) → b ≡ some_below p (of_left G n (nullable_all H)) →
+      BeginsAsAll M H n (record { firsts = m; nullable = b })
+  together H n p m b all firsts nullable = record {
+    firsts = λ a. firsts a ∙ ap (λ p. some_below p (of_left G n (λ α. first_of H α a))) all;
+    nullable = nullable ∙ ap (λ p. some_below p (of_left G n (nullable_all H))) all;
+  }
 
   -- x are the first terminals that are said of n, y those of its right sides, and on nullable they agree
   pub equations_are : (H : Hints) → HintsInRange H → (n x y : ℕ) → x < 2 ^ narrow → y < 2 ^ narrow →

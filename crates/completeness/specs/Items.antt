@@ -68,11 +68,13 @@ module _ (M : Automaton) (H : Hints) (x : Item) where
   abbrev pub reduced : Bool
   reduced = done_reduces M H x.state x.production (looks_of H x)
 
+  -- the action on terminal a reduces it
+  abbrev pub reduced_on : ℕ → Bool
+  reduced_on a = reduces_by x.production (M.action x.state a)
+
   -- so it is where no default decides
   abbrev pub actions_reduced : Bool
-  actions_reduced =
-      below terminals (λ a.
-      let y = reduces_by x.production (M.action x.state a) in implies (looks_of H x a) y)
+  actions_reduced = below terminals (λ a. let y = reduced_on a in implies (looks_of H x a) y)
 
   -- it is complete, with γ behind its dot
   abbrev pub complete_with : List Symbol → Bool

@@ -8,9 +8,7 @@ ghost use Rattle.completeness.specs.Rights.{rights, BeginsFrom};
 
 use hinted::Hinted;
 use syntax::Symbol;
-
-/// The number of the added production, whose right side is the start alone.
-pub(crate) const ADDED: u8 = 254;
+use table::{ADDED, LONGEST};
 
 /// The first terminals of some symbols in a row, and whether all of them are nullable.
 #[derive(Clone, Copy)]
@@ -58,8 +56,10 @@ pub(crate) fn beginning_from<T: Hinted>(table: &T, p: u8, from: u8) -> Beginning
     ensures { BeginsFrom (T.Table.meaning table.now) (T.hints table.now) p from result }
 {
     let mut firsts = 0;
-    let mut k = from;
-    while let Some(symbol) = right_symbol(table, p, k) {
+    for k in from..LONGEST {
+        let Some(symbol) = right_symbol(table, p, k) else {
+            break;
+        };
         firsts |= first_terminals(table, symbol);
         if !is_nullable(table, symbol) {
             return Beginning {
@@ -67,7 +67,6 @@ pub(crate) fn beginning_from<T: Hinted>(table: &T, p: u8, from: u8) -> Beginning
                 nullable: false,
             };
         }
-        k += 1;
     }
     Beginning {
         firsts,

@@ -1,85 +1,65 @@
 //! Items with nothing behind the dot: reduced, or accepted, on each look-ahead.
 ghost use Rattle.std.specs.Prelude.{◌≡◌};
-ghost use Rattle.layout.specs.Records.{sixteen, member};
-ghost use Rattle.layout.specs.Checking.{accepts as accepts_by, reduces_by};
-ghost use Rattle.completeness.specs.Items.{HasLooks, accepted_at_end, actions_reduced, reduced, complete_at_end};
+ghost use Rattle.completeness.specs.Items.{HasLooks, accepted_at_end, actions_reduced, reduced_on, reduced};
+ghost use Rattle.completeness.specs.Items.{complete_at_end};
 
-use crate::beginnings::ADDED;
 use crate::item::Item;
 use crate::moves::decide;
-use hinted::Hinted;
-use table::Action;
+use hinted::{Hinted, contains};
+use table::{ADDED, Action, TERMINALS};
 
-const END: u8 = 0;
+/// The terminal of the end of a text.
+pub(crate) const END: u8 = 0;
 
-const TERMINALS: u8 = 32;
+/// An item of a table, with nothing behind its dot.
+#[derive(Drop)]
+pub(crate) struct End<'t, T: Hinted> {
+    pub(crate) table: &'t T,
+    pub(crate) item: Item,
+    ghost has_looks: { HasLooks (T.hints table.now) item },
+}
 
-fn accepts(action: Action) -> bool
-    ensures { result ≡ accepts_by action }
-{
-    match action {
-        Action::Accept => true,
-        Action::Shift(_) | Action::Reduce(_) | Action::Reject => false,
+impl<'t, T: Hinted> End<'t, T> {
+    fn accepts(&self) -> bool
+        ensures { result ≡ accepted_at_end (T.Table.meaning self.now.table.now) (T.hints self.now.table.now) self.now.item }
+    {
+        !contains(self.item.looks, END)
+            || decide(self.table, self.item.state, END) == Action::Accept
     }
-}
 
-/// END is bit 0.
-pub(crate) fn has_end(set: u64) -> bool
-    ensures { result ≡ member sixteen set 0 }
-{
-    set % 2 == 1
-}
-
-fn accepts_at_end<T: Hinted>(table: &T, item: Item) -> bool
-    requires { HasLooks (T.hints table.now) item }
-    ensures { result ≡ accepted_at_end (T.Table.meaning table.now) (T.hints table.now) item }
-{
-    !has_end(item.looks) || accepts(decide(table, item.state, END))
-}
-
-fn reduces_by(p: u8, action: Action) -> bool
-    ensures { result ≡ reduces_by p action }
-{
-    match action {
-        Action::Reduce(q) => q == p,
-        Action::Shift(_) | Action::Accept | Action::Reject => false,
+    /// The item's production is reduced before terminal `a`, where no default decides.
+    fn reduces_on(&self, a: u8) -> bool
+        ensures { result ≡ reduced_on (T.Table.meaning self.now.table.now) (T.hints self.now.table.now) self.now.item a }
+    {
+        self.table.action(self.item.state, a) == Action::Reduce(self.item.production)
     }
-}
 
-/// The action on each look-ahead reduces; of use where the state has no default.
-fn actions_reduce<T: Hinted>(table: &T, item: Item) -> bool
-    requires { HasLooks (T.hints table.now) item }
-    ensures { result ≡ actions_reduced (T.Table.meaning table.now) (T.hints table.now) item }
-{
-    for a in 0..TERMINALS {
-        if (item.looks >> a) % 2 == 1 && !reduces_by(item.production, table.action(item.state, a)) {
-            return false;
+    /// The action on each look-ahead reduces; of use where the state has no default.
+    fn actions_reduce(&self) -> bool
+        ensures { result ≡ actions_reduced (T.Table.meaning self.now.table.now) (T.hints self.now.table.now) self.now.item }
+    {
+        (0..TERMINALS)
+            .filter(|a| contains(self.item.looks, *a))
+            .all(|a| self.reduces_on(a))
+    }
+
+    /// A default decides for all look-aheads at once.
+    fn reduces(&self) -> bool
+        ensures { result ≡ reduced (T.Table.meaning self.now.table.now) (T.hints self.now.table.now) self.now.item }
+    {
+        match self.table.default_reduction(self.item.state) {
+            Some(p) => self.item.looks == 0 || p == self.item.production,
+            None => self.actions_reduce(),
         }
     }
-    true
-}
 
-/// A default decides for all look-aheads at once.
-fn reduces<T: Hinted>(table: &T, item: Item) -> bool
-    requires { HasLooks (T.hints table.now) item }
-    ensures { result ≡ reduced (T.Table.meaning table.now) (T.hints table.now) item }
-{
-    match table.default_reduction(item.state) {
-        Some(p) => p == item.production || item.looks == 0,
-        None => actions_reduce(table, item),
-    }
-}
-
-/// The added production accepts, any other is reduced; one that is absent has no item.
-pub(crate) fn ends<T: Hinted>(table: &T, item: Item) -> bool
-    requires { HasLooks (T.hints table.now) item }
-    ensures { result ≡ complete_at_end (T.Table.meaning table.now) (T.hints table.now) item }
-{
-    if item.production == ADDED {
-        return accepts_at_end(table, item);
-    }
-    match table.production(item.production) {
-        Some(_) => reduces(table, item),
-        None => false,
+    /// The added production accepts, any other is reduced; one that is absent has no item.
+    pub(crate) fn is_complete(&self) -> bool
+        ensures { result ≡ complete_at_end (T.Table.meaning self.now.table.now) (T.hints self.now.table.now) self.now.item }
+    {
+        if self.item.production == ADDED {
+            return self.accepts();
+        }
+        self.table.production(self.item.production).is_some() && self.reduces()
     }
 }

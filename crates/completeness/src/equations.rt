@@ -5,6 +5,7 @@ ghost use Rattle.completeness.specs.Rights.{BeginsAsAll};
 
 use crate::beginnings::{Beginning, beginning_from};
 use hinted::Hinted;
+use table::PRODUCTIONS;
 
 /// Of the right sides of a nonterminal, taken together.
 fn beginning_of_all<T: Hinted>(table: &T, n: u8) -> Beginning
@@ -12,14 +13,15 @@ fn beginning_of_all<T: Hinted>(table: &T, n: u8) -> Beginning
 {
     let mut firsts = 0;
     let mut nullable = false;
-    let mut p = 0;
-    while let Some(production) = table.production(p) {
+    for p in 0..PRODUCTIONS {
+        let Some(production) = table.production(p) else {
+            break;
+        };
         if production.left == n {
             let right = beginning_from(table, p, 0);
             firsts |= right.firsts;
             nullable |= right.nullable;
         }
-        p += 1;
     }
     Beginning { firsts, nullable }
 }
@@ -29,8 +31,5 @@ pub fn equations_hold<T: Hinted>(table: &T, n: u8) -> bool
     ensures { result ≡ equations_hold (T.Table.meaning table.now) (T.hints table.now) n }
 {
     let all = beginning_of_all(table, n);
-    if table.nullable(n) != all.nullable {
-        return false;
-    }
-    table.firsts(n) == all.firsts
+    table.nullable(n) == all.nullable && table.firsts(n) == all.firsts
 }

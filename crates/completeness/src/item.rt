@@ -1,14 +1,12 @@
 //! Whether an item goes on as it should, by what stands behind its dot.
-ghost use Rattle.std.specs.Prelude.{◌≡◌, ◌<◌};
+ghost use Rattle.std.specs.Prelude.{◌≡◌};
 ghost use Rattle.layout.specs.CompletenessTests.{item_at, initial_item};
-ghost use Rattle.completeness.specs.Items.{HasLooks, advanced};
 
-use crate::beginnings::{ADDED, right_symbol};
-use crate::closure::is_closed;
-use crate::ends::{ends, has_end};
-use crate::moves::{follows, shifts};
-use hinted::Hinted;
-use syntax::Symbol;
+use crate::beginnings::right_symbol;
+use crate::ends::{END, End};
+use crate::moves::Step;
+use hinted::{Hinted, contains};
+use table::ADDED;
 
 /// An item of a state, and its look-aheads.
 #[derive(Clone, Copy)]
@@ -17,17 +15,6 @@ pub(crate) struct Item {
     pub(crate) production: u8,
     pub(crate) dot: u8,
     pub(crate) looks: u64,
-}
-
-/// The symbol behind the dot is read as the item says.
-fn advances<T: Hinted>(table: &T, item: Item, symbol: Symbol) -> bool
-    requires { (HasLooks (T.hints table.now) item) × (item.dot < 255) }
-    ensures { result ≡ advanced (T.Table.meaning table.now) (T.hints table.now) item symbol }
-{
-    match symbol {
-        Symbol::Terminal(a) => shifts(table, item, a),
-        Symbol::Nonterminal(n) => is_closed(table, item, n) && follows(table, item, n),
-    }
 }
 
 /// The item of a production with so many right symbols before its dot; false where there is no such production.
@@ -41,8 +28,8 @@ pub fn item_is_complete<T: Hinted>(table: &T, s: u8, p: u8, dot: u8) -> bool
         looks: table.look_aheads(s, p, dot),
     };
     match right_symbol(table, p, dot) {
-        None => ends(table, item),
-        Some(symbol) => advances(table, item, symbol),
+        None => End { table, item }.is_complete(),
+        Some(symbol) => Step { table, item }.is_complete(symbol),
     }
 }
 
@@ -50,5 +37,5 @@ pub fn item_is_complete<T: Hinted>(table: &T, s: u8, p: u8, dot: u8) -> bool
 pub fn initial_item_is_there<T: Hinted>(table: &T) -> bool
     ensures { result ≡ initial_item (T.Table.meaning table.now) (T.hints table.now) }
 {
-    has_end(table.look_aheads(0, ADDED, 0))
+    contains(table.look_aheads(0, ADDED, 0), END)
 }

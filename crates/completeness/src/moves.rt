@@ -1,12 +1,22 @@
-//! Where a state goes: its action before a terminal, and the item one dot on.
+//! Items before a symbol, which is shifted or has a goto, and where the item goes on one dot further.
 ghost use Rattle.std.specs.Prelude.{◌≡◌, ◌+◌, ◌<◌};
 ghost use Rattle.table.specs.Automaton.{decide as decided};
 ghost use Rattle.hinted.specs.Sets.{Holds};
-ghost use Rattle.completeness.specs.Items.{HasLooks, next_in, shifted_on, followed_on};
+ghost use Rattle.completeness.specs.Items.{HasLooks, advanced, next_in, shifted_on, followed_on};
 
 use crate::item::Item;
 use hinted::Hinted;
+use syntax::Symbol;
 use table::Action;
+
+/// An item of a table, with a symbol behind its dot.
+#[derive(Drop)]
+pub(crate) struct Step<'t, T: Hinted> {
+    pub(crate) table: &'t T,
+    pub(crate) item: Item,
+    ghost has_looks: { HasLooks (T.hints table.now) item },
+    ghost dot_few: { item.dot < 255 },
+}
 
 /// The action in a state before a terminal: the state's default, else that on the terminal.
 pub(crate) fn decide<T: Hinted>(table: &T, s: u8, a: u8) -> Action
@@ -18,40 +28,50 @@ pub(crate) fn decide<T: Hinted>(table: &T, s: u8, a: u8) -> Action
     }
 }
 
-/// The look-aheads of the item one dot on in state `t`.
-fn next_looks<T: Hinted>(table: &T, item: Item, t: u8) -> u64
-    requires { item.dot < 255 }
-    ensures { Holds result ((T.hints table.now).look_aheads t item.production (item.dot + 1)) }
-{
-    table.look_aheads(t, item.production, item.dot + 1)
-}
-
-/// State `t` has the item one dot on, with at least the same look-aheads.
-fn goes_on<T: Hinted>(table: &T, item: Item, t: u8) -> bool
-    requires { (HasLooks (T.hints table.now) item) × (item.dot < 255) }
-    ensures { result ≡ next_in (T.Table.meaning table.now) (T.hints table.now) item t }
-{
-    item.looks & next_looks(table, item, t) == item.looks
-}
-
-/// The terminal behind the dot is shifted.
-pub(crate) fn shifts<T: Hinted>(table: &T, item: Item, a: u8) -> bool
-    requires { (HasLooks (T.hints table.now) item) × (item.dot < 255) }
-    ensures { result ≡ shifted_on (T.Table.meaning table.now) (T.hints table.now) item a }
-{
-    match decide(table, item.state, a) {
-        Action::Shift(t) => goes_on(table, item, t),
-        Action::Reduce(_) | Action::Accept | Action::Reject => false,
+impl<'t, T: Hinted> Step<'t, T> {
+    /// The look-aheads of the item one dot on in state `t`.
+    fn next_looks(&self, t: u8) -> u64
+        ensures { Holds result ((T.hints self.now.table.now).look_aheads t self.now.item.production (self.now.item.dot + 1)) }
+    {
+        self.table
+            .look_aheads(t, self.item.production, self.item.dot + 1)
     }
-}
 
-/// A goto on the nonterminal behind the dot, if there is one, goes on with the item.
-pub(crate) fn follows<T: Hinted>(table: &T, item: Item, n: u8) -> bool
-    requires { (HasLooks (T.hints table.now) item) × (item.dot < 255) }
-    ensures { result ≡ followed_on (T.Table.meaning table.now) (T.hints table.now) item n }
-{
-    match table.goto(item.state, n) {
-        Some(t) => goes_on(table, item, t),
-        None => true,
+    /// State `t` has the item one dot on, with at least the same look-aheads.
+    fn goes_on(&self, t: u8) -> bool
+        ensures { result ≡ next_in (T.Table.meaning self.now.table.now) (T.hints self.now.table.now) self.now.item t }
+    {
+        self.item.looks & self.next_looks(t) == self.item.looks
+    }
+
+    /// Terminal `a` behind the dot is shifted.
+    fn shifts(&self, a: u8) -> bool
+        ensures { result ≡ shifted_on (T.Table.meaning self.now.table.now) (T.hints self.now.table.now) self.now.item a }
+    {
+        match decide(self.table, self.item.state, a) {
+            Action::Shift(t) => self.goes_on(t),
+            Action::Reduce(_) | Action::Accept | Action::Reject => false,
+        }
+    }
+
+    /// A goto on nonterminal `n` behind the dot, if there is one, goes on with the item.
+    fn follows(&self, n: u8) -> bool
+        ensures { result ≡ followed_on (T.Table.meaning self.now.table.now) (T.hints self.now.table.now) self.now.item n }
+    {
+        // The arms are written out, since a closure would need a contract of its own here.
+        match self.table.goto(self.item.state, n) {
+            Some(t) => self.goes_on(t),
+            None => true,
+        }
+    }
+
+    /// The symbol behind the dot is read as the item says.
+    pub(crate) fn is_complete(&self, symbol: Symbol) -> bool
+        ensures { result ≡ advanced (T.Table.meaning self.now.table.now) (T.hints self.now.table.now) self.now.item symbol }
+    {
+        match symbol {
+            Symbol::Terminal(a) => self.shifts(a),
+            Symbol::Nonterminal(n) => self.is_closed(n) && self.follows(n),
+        }
     }
 }

@@ -4,10 +4,19 @@
 ghost use Rattle.std.specs.Prelude.{◌≡◌, ℕ, length};
 ghost use Rattle.table.specs.Automaton.{nth};
 ghost use Rattle.table.specs.Hints.{Hints};
+ghost use Rattle.layout.specs.Records.{sixteen, member};
 ghost use Rattle.hinted.specs.Sets.{Holds, HoldsIfAny, InRange};
 
 use syntax::Symbol;
-use table::Table;
+use table::{STATES, Table};
+
+/// State or terminal `x` is in a set; none from 64 on is.
+#[tactic(auto, unfolding(layout::specs::Records::member))]
+pub fn contains(set: u64, x: u8) -> bool
+    ensures { result ≡ member sixteen set x }
+{
+    x < STATES && (set >> x) % 2 == 1
+}
 
 /// A question answers its part of the hints and changes nothing. A set is a 64-bit number: bit i is state or terminal i.
 pub trait Hinted: Table {

@@ -1,45 +1,14 @@
 -- Symbols on top, compared one by one from the far end.
-use Rattle.std.proofs.Common.{◌≡◌, ℕ, zero, suc, ◌+◌, ◌-◌, ◌<◌, ◌≤◌, Bool, false, ◌&&◌, List, [], ◌∷◌, ◌++◌, length, drop, Some, None, Option, sym, refl, ap, ◌∙◌, subst, ap₂, suc-add, zero-add, arith}
-use Rattle.std.proofs.lemmas.List.{length-append, length-drop}
-use Rattle.std.proofs.lemmas.Bool.{le-leb, lt-leb}
+use Rattle.std.proofs.Common.{◌≡◌, ℕ, zero, suc, ◌+◌, ◌-◌, ◌≤◌, Bool, ◌&&◌, List, [], ◌∷◌, length, drop, Some, sym, refl, ap, ◌∙◌, suc-add, zero-add, arith}
+use Rattle.std.proofs.lemmas.List.{length-drop}
+use Rattle.std.proofs.lemmas.Bool.{le-leb}
 use Rattle.syntax.specs.declared.Symbol.{Symbol}
 use Rattle.table.specs.Automaton.{nth}
-use Rattle.table.specs.Hints.{incoming_list}
 use Rattle.layout.specs.Choices.{below}
 use Rattle.layout.specs.Checking.{same_symbols, ends}
 use Rattle.wellformed.proofs.Loops.{below_shift}
 use Rattle.safety.specs.Parts.{same_ones}
 use Rattle.wellformed.proofs.Tests.{below_same}
-
--- THE TRAIL OF A STATE
-
-pub trail_below : (xs : List Symbol) (o : Option Symbol) (k : ℕ) → k < length xs →
-    nth xs k ≡ nth (xs ++ incoming_list o) k
-trail_below [] o k lt = absurd (omega arith)
-trail_below (x ∷ xs) o zero lt = refl
-trail_below (x ∷ xs) o (suc k) lt = trail_below xs o k (omega arith)
-
-pub trail_last : (xs : List Symbol) (o : Option Symbol) (k : ℕ) → k ≡ length xs → o ≡ nth (xs ++ incoming_list o) k
-trail_last [] None k e = refl
-trail_last [] (Some X) zero e = refl
-trail_last [] (Some X) (suc k) e = absurd (omega arith)
-trail_last (x ∷ xs) o zero e = absurd (omega arith)
-trail_last (x ∷ xs) o (suc k) e = trail_last xs o k (omega arith)
-
-pub trail_beyond : (xs : List Symbol) (o : Option Symbol) (k : ℕ) → length xs < k → None ≡ nth (xs ++ incoming_list o) k
-trail_beyond [] None k lt = refl
-trail_beyond [] (Some X) zero lt = absurd (omega arith)
-trail_beyond [] (Some X) (suc k) lt = refl
-trail_beyond (x ∷ xs) o zero lt = absurd (omega arith)
-trail_beyond (x ∷ xs) o (suc k) lt = trail_beyond xs o k (omega arith)
-
-pub trail_long : (xs : List Symbol) (o : Option Symbol) (past : ℕ) (X : Symbol) → past ≡ length xs → Some X ≡ o →
-    past + 1 ≡ length (xs ++ incoming_list o)
-trail_long xs o past X e f =
-    let long = length-append xs (X ∷ []) in
-    subst (λ o. past + 1 ≡ length (xs ++ incoming_list o)) f (omega arith)
-
--- THE LAST SYMBOLS
 
 nth_drop : (n : ℕ) (ys : List Symbol) (k : ℕ) → nth (drop n ys) k ≡ nth ys (n + k)
 nth_drop zero ys k = ap (nth ys) (sym (zero-add k))
@@ -60,11 +29,6 @@ one_for_one (x ∷ xs) (z ∷ zs) e =
 abbrev pub fits_at : List Symbol → List Symbol → ℕ → Bool
 fits_at xs ys k = same_ones (nth xs k) (nth ys (length ys - length xs + k))
 
--- as it is made of what was asked
-pub asked_at : (xs ys : List Symbol) (many known k : ℕ) → many ≡ length xs → known ≡ length ys →
-    same_ones (nth xs k) (nth ys (known - many + k)) ≡ fits_at xs ys k
-asked_at xs ys many known k e f = ap₂ (λ i j. same_ones (nth xs k) (nth ys (i - j + k))) f e
-
 pub ends_is : (xs ys : List Symbol) → length xs ≤ length ys → ends xs ys ≡ below (length xs) (fits_at xs ys)
 ends_is xs ys le =
     let n = length ys - length xs in
@@ -72,6 +36,3 @@ ends_is xs ys le =
     ap (λ b. b && same_symbols xs (drop n ys)) (le-leb (length xs) (length ys) le)
     ∙ one_for_one xs (drop n ys) long
     ∙ below_same (length xs) _ (fits_at xs ys) (λ k lt. ap (same_ones (nth xs k)) (nth_drop n ys k))
-
-pub ends_not : (xs ys : List Symbol) → length ys < length xs → ends xs ys ≡ false
-ends_not xs ys lt = ap (λ b. b && same_symbols xs (drop (length ys - length xs) ys)) (lt-leb (length xs) (length ys) lt)

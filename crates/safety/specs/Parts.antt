@@ -1,33 +1,18 @@
 -- The parts of the tests: symbols that have to lie on top, and the states that can lie at each depth.
-use Rattle.std.specs.Prelude.{ℕ, ◌+◌, Bool, false, ◌&&◌, List, [], ◌∷◌, Option, ◌==◌, nat_lt}
+use Rattle.std.specs.Prelude.{ℕ, Bool, false, ◌&&◌, List, ◌∷◌, Option, ◌==◌, nat_lt}
 use Rattle.syntax.specs.declared.Symbol.{Symbol}
 use Rattle.table.specs.Automaton.{Automaton, nth}
 use Rattle.table.specs.Lawful.{narrow}
-use Rattle.table.specs.Hints.{Set, Hints, trail, shadow}
+use Rattle.table.specs.Hints.{Set, Hints, shadow}
 use Rattle.layout.specs.Choices.{given}
 use Rattle.layout.specs.Records.{sixteen, member}
 use Rattle.layout.specs.Opening.{same_symbol}
-use Rattle.layout.specs.Checking.{ends, covers}
+use Rattle.layout.specs.Checking.{covers}
 use Rattle.layout.specs.SafetyTests.{all_go, initial_alone}
-use Rattle.safety.specs.declared.symbols.Symbols.{Symbols}
-use Rattle.safety.specs.declared.symbols.Symbols.TheVariants.{Past, Right}
-
--- the symbols that have to lie on top
-abbrev pub listed : Automaton → Hints → Symbols → List Symbol
-listed M H (Past s) = H.past_symbols s
-listed M H (Right p) = given [] (λ r. r.right) (M.grammar p)
-
--- they lie on top whenever s does
-abbrev pub on_top : Automaton → Hints → Symbols → ℕ → Bool
-on_top M H symbols s = ends (listed M H symbols) (trail M H s)
 
 -- both are there and the same
 abbrev pub same_ones : Option Symbol → Option Symbol → Bool
 same_ones a b = given false (λ x. given false (same_symbol x) b) a
-
--- symbol k is that of the trail of s behind its first ones
-abbrev pub same_at : Automaton → Hints → Symbols → ℕ → ℕ → ℕ → Bool
-same_at M H symbols s beyond k = same_ones (nth (listed M H symbols) k) (nth (trail M H s) (beyond + k))
 
 -- the one state s, if a set has room for it
 abbrev pub alone : ℕ → Set

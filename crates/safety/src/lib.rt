@@ -1,16 +1,13 @@
 //! The safety conditions, tested of any table that comes with hints. Where every test passes, no reading slips.
 #![tactic(auto)]
 
-ghost use Rattle.std.specs.Prelude.{◌≡◌, false};
+ghost use Rattle.std.specs.Prelude.{◌≡◌};
 ghost use Rattle.table.specs.Lawful.{narrow};
-ghost use Rattle.syntax.specs.Grammar.{start};
-ghost use Rattle.layout.specs.Choices.{given};
-ghost use Rattle.layout.specs.Opening.{same_symbol};
 ghost use Rattle.layout.specs.SafetyTests.{edge_safe, reduce_safe, accept_safe, action_safe};
 ghost use Rattle.safety.specs.Parts.{all_below_go, initial_below};
 
 use crate::sets::{all_go, is_covered, is_initial, shadow_set};
-use crate::symbols::{Symbols, lies_on_top};
+use crate::symbols::{Past, RightSide, Trail, ends_with};
 use hinted::Hinted;
 use syntax::Symbol;
 use table::{Action, Table};
@@ -22,20 +19,23 @@ mod symbols;
 pub fn edge_is_safe<T: Hinted>(table: &T, s: u8, to: u8) -> bool
     ensures { result ≡ edge_safe narrow (T.Table.meaning table.now) (T.hints table.now) s to }
 {
-    lies_on_top(table, Symbols::Past(to), s) && is_covered(table, s, to)
+    let past = Past { table, state: to };
+    ends_with(&Trail::of(table, s), &past) && is_covered(table, s, to)
 }
 
 /// Production `p` is reduced in `s`: its right side lies on top, and every state that can lie below it has the goto.
 pub fn reduce_is_safe<T: Hinted>(table: &T, s: u8, p: u8) -> bool
     ensures { result ≡ reduce_safe narrow (T.Table.meaning table.now) (T.hints table.now) s p }
 {
-    match table.production(p) {
-        None => false,
-        Some(production) => {
-            lies_on_top(table, Symbols::Right(p), s)
-                && all_below_go(table, s, production.length, production.left)
-        }
-    }
+    let Some(production) = table.production(p) else {
+        return false;
+    };
+    let right = RightSide {
+        table,
+        production: p,
+    };
+    ends_with(&Trail::of(table, s), &right)
+        && all_below_go(table, s, production.length, production.left)
 }
 
 /// A text is accepted in `s`: the start, and nothing else, lies on top of the initial state.
@@ -43,7 +43,7 @@ pub fn accept_is_safe<T: Hinted>(table: &T, s: u8) -> bool
     ensures { result ≡ accept_safe narrow (T.Table.meaning table.now) (T.hints table.now) s }
 {
     // State 0 is entered by no symbol, so it fails the first test.
-    is_start(table.incoming(s)) && initial_below(table, s)
+    table.incoming(s) == Some(Symbol::Nonterminal(0)) && initial_below(table, s)
 }
 
 pub fn action_is_safe<T: Hinted>(table: &T, s: u8, action: Action) -> bool
@@ -61,18 +61,10 @@ pub fn action_is_safe<T: Hinted>(table: &T, s: u8, action: Action) -> bool
 fn all_below_go<T: Hinted>(table: &T, s: u8, depth: u8, n: u8) -> bool
     ensures { result ≡ all_below_go (T.Table.meaning table.now) (T.hints table.now) s depth n }
 {
+    // The arms are written out, since a closure would need a contract of its own here.
     match shadow_set(table, s, depth) {
         None => false,
         Some(set) => all_go(table, set, n),
-    }
-}
-
-fn is_start(symbol: Option<Symbol>) -> bool
-    ensures { result ≡ given false (λ X. same_symbol X start) symbol }
-{
-    match symbol {
-        Some(Symbol::Nonterminal(n)) => n == 0,
-        _ => false,
     }
 }
 
@@ -80,8 +72,5 @@ fn is_start(symbol: Option<Symbol>) -> bool
 fn initial_below<T: Hinted>(table: &T, s: u8) -> bool
     ensures { result ≡ initial_below (T.Table.meaning table.now) (T.hints table.now) s }
 {
-    match table.past_set(s, 0) {
-        None => false,
-        Some(set) => is_initial(set) && table.past_set(s, 1).is_none(),
-    }
+    table.past_set(s, 0).is_some_and(is_initial) && table.past_set(s, 1).is_none()
 }

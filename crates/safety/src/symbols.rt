@@ -1,66 +1,107 @@
 //! Which symbols lie on top whenever a state does.
-ghost use Rattle.std.specs.Prelude.{◌≡◌, ℕ, ◌+◌, ◌<◌, length};
+ghost use Rattle.std.specs.Prelude.{◌≡◌, ℕ, ◌+◌, List, [], length};
+ghost use Rattle.syntax.specs.declared.Symbol.{Symbol};
 ghost use Rattle.table.specs.Automaton.{nth};
 ghost use Rattle.table.specs.Hints.{trail};
-ghost use Rattle.safety.specs.Parts.{listed, on_top, same_ones, same_at};
+ghost use Rattle.layout.specs.Choices.{given};
+ghost use Rattle.layout.specs.Checking.{ends};
+ghost use Rattle.safety.specs.Parts.{same_ones};
 
 use hinted::Hinted;
 use syntax::Symbol;
 use table::Table;
 
-/// Symbols that have to lie on top, the nearest last.
-#[derive(Clone, Copy)]
-pub(crate) enum Symbols {
-    /// The past symbols of a state.
-    Past(u8),
-    /// The right side of a production; none if there is no such production.
-    Right(u8),
+/// Symbols in a row, the nearest last.
+pub(crate) trait Row {
+    ghost symbols: { Self → List Symbol };
+
+    fn length(&self) -> u8
+        ensures { result ≡ length (symbols self.now) };
+
+    /// Symbol `k`, counted from the far end.
+    fn symbol(&self, k: u8) -> Option<Symbol>
+        ensures { result ≡ nth (symbols self.now) k };
 }
 
-/// Symbol `k`, counted from the far end.
-fn symbol_of<T: Hinted>(table: &T, symbols: Symbols, k: u8) -> Option<Symbol>
-    ensures { result ≡ nth (listed (T.Table.meaning table.now) (T.hints table.now) symbols) k }
-{
-    match symbols {
-        Symbols::Past(s) => table.past_symbol(s, k),
-        Symbols::Right(p) => table.right_symbol(p, k),
+/// The past symbols of a state.
+#[derive(Drop)]
+pub(crate) struct Past<'t, T> {
+    pub(crate) table: &'t T,
+    pub(crate) state: u8,
+}
+
+impl<'t, T: Hinted> Row for Past<'t, T> {
+    ghost symbols = { λ r. (T.hints r.table.now).past_symbols r.state };
+
+    fn length(&self) -> u8 {
+        self.table.past_length(self.state)
+    }
+
+    fn symbol(&self, k: u8) -> Option<Symbol> {
+        self.table.past_symbol(self.state, k)
     }
 }
 
-fn length_of<T: Hinted>(table: &T, symbols: Symbols) -> u8
-    ensures { result ≡ length (listed (T.Table.meaning table.now) (T.hints table.now) symbols) }
-{
-    match symbols {
-        Symbols::Past(s) => table.past_length(s),
-        Symbols::Right(p) => match table.production(p) {
-            None => 0,
-            Some(production) => production.length,
-        },
+/// The right side of a production; empty if there is no such production.
+#[derive(Drop)]
+pub(crate) struct RightSide<'t, T> {
+    pub(crate) table: &'t T,
+    pub(crate) production: u8,
+}
+
+impl<'t, T: Hinted> Row for RightSide<'t, T> {
+    ghost symbols = { λ r. given [] (λ x. x.right) ((T.Table.meaning r.table.now).grammar r.production) };
+
+    fn length(&self) -> u8 {
+        self.table
+            .production(self.production)
+            .map_or(0, |production| production.length)
+    }
+
+    fn symbol(&self, k: u8) -> Option<Symbol> {
+        self.table.right_symbol(self.production, k)
     }
 }
 
-/// How many symbols are known to lie on top in a state: its past ones and the one that enters it.
-fn trail_length<T: Hinted>(table: &T, s: u8, past: u8) -> u8
-    requires { past ≡ length ((T.hints table.now).past_symbols s) }
-    ensures { result ≡ length (trail (T.Table.meaning table.now) (T.hints table.now) s) }
-{
-    match table.incoming(s) {
-        None => past,
-        Some(_) => past + 1,
+/// The symbols that are known to lie on top in a state: its past ones and the one that enters it.
+#[derive(Drop)]
+pub(crate) struct Trail<'t, T: Hinted> {
+    table: &'t T,
+    state: u8,
+    past: u8,
+    ghost past_is: { past ≡ length ((T.hints table.now).past_symbols state) },
+}
+
+impl<'t, T: Hinted> Trail<'t, T> {
+    pub(crate) fn of(table: &'t T, state: u8) -> Self
+        ensures { (result.table.now ≡ table.now) × (result.state ≡ state) }
+    {
+        Trail {
+            table,
+            state,
+            past: table.past_length(state),
+        }
     }
 }
 
-/// Symbol `k` of these, counted from the far end.
-fn trail_symbol<T: Hinted>(table: &T, s: u8, past: u8, k: u8) -> Option<Symbol>
-    requires { past ≡ length ((T.hints table.now).past_symbols s) }
-    ensures { result ≡ nth (trail (T.Table.meaning table.now) (T.hints table.now) s) k }
-{
-    if k < past {
-        table.past_symbol(s, k)
-    } else if k == past {
-        table.incoming(s)
-    } else {
-        None
+impl<'t, T: Hinted> Row for Trail<'t, T> {
+    ghost symbols = { λ r. trail (T.Table.meaning r.table.now) (T.hints r.table.now) r.state };
+
+    fn length(&self) -> u8 {
+        match self.table.incoming(self.state) {
+            None => self.past,
+            Some(_) => self.past + 1,
+        }
+    }
+
+    fn symbol(&self, k: u8) -> Option<Symbol> {
+        if k < self.past {
+            self.table.past_symbol(self.state, k)
+        } else if k == self.past {
+            self.table.incoming(self.state)
+        } else {
+            None
+        }
     }
 }
 
@@ -68,39 +109,18 @@ fn trail_symbol<T: Hinted>(table: &T, s: u8, past: u8, k: u8) -> Option<Symbol>
 fn is_same(a: Option<Symbol>, b: Option<Symbol>) -> bool
     ensures { result ≡ same_ones a b }
 {
-    match (a, b) {
-        (Some(Symbol::Terminal(x)), Some(Symbol::Terminal(y))) => x == y,
-        (Some(Symbol::Nonterminal(x)), Some(Symbol::Nonterminal(y))) => x == y,
-        _ => false,
-    }
+    a.is_some() && a == b
 }
 
-/// Symbol `k` is the one that lies on top in `s` with as many symbols above it; `beyond` more are known to lie there.
-fn lies_there<T: Hinted>(table: &T, symbols: Symbols, s: u8, past: u8, beyond: u8, k: u8) -> bool
-    requires { (past ≡ length ((T.hints table.now).past_symbols s)) × (beyond + k < 256) }
-    ensures { result ≡ same_at (T.Table.meaning table.now) (T.hints table.now) symbols s beyond k }
+/// The symbols of `top` are the last ones of `row`.
+pub(crate) fn ends_with<A: Row, B: Row>(row: &A, top: &B) -> bool
+    ensures { result ≡ ends (B.symbols top.now) (A.symbols row.now) }
 {
-    is_same(
-        symbol_of(table, symbols, k),
-        trail_symbol(table, s, past, beyond + k),
-    )
-}
-
-/// The symbols are the last ones known to lie on top in `s`.
-pub(crate) fn lies_on_top<T: Hinted>(table: &T, symbols: Symbols, s: u8) -> bool
-    ensures { result ≡ on_top (T.Table.meaning table.now) (T.hints table.now) symbols s }
-{
-    let length = length_of(table, symbols);
-    let past = table.past_length(s);
-    let known = trail_length(table, s, past);
+    let length = top.length();
+    let known = row.length();
     if known < length {
         return false;
     }
     let beyond = known - length;
-    for k in 0..length {
-        if !lies_there(table, symbols, s, past, beyond, k) {
-            return false;
-        }
-    }
-    true
+    (0..length).all(|k| is_same(top.symbol(k), row.symbol(beyond + k)))
 }
