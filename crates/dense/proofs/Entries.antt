@@ -1,5 +1,5 @@
 -- The entries of a row by index, and what a test of each of them says of any index.
-use Rattle.std.proofs.Common.{◌≡◌, ℕ, zero, suc, ◌<◌, ◌≤◌, Bool, true, T, List, [], ◌∷◌, ◌++◌, map, length, get_or, replicate, Some, None, Option, refl, ap, subst, arith}
+use Rattle.std.proofs.Common.{◌≡◌, ℕ, zero, suc, Bool, true, T, List, [], ◌∷◌, ◌++◌, map, get_or, replicate, Some, None, Option, refl, subst}
 use Rattle.syntax.specs.declared.Symbol.{Symbol}
 use Rattle.syntax.specs.Grammar.{Rule, Present}
 use Rattle.table.specs.Automaton.{nth, head, symbol_at}
@@ -11,29 +11,11 @@ use Rattle.dense.specs.LawTests.{each_at, each_cell}
 -- BY INDEX
 
 module _ {A : Type 0} where
-  pub nth_within : (xs : List A) (k : ℕ) (d : A) → k < length xs → Some (get_or xs k d) ≡ nth xs k
-  nth_within [] k d lt = absurd (omega arith)
-  nth_within (x ∷ xs) zero d lt = refl
-  nth_within (x ∷ xs) (suc k) d lt = nth_within xs k d (omega arith)
-
-  pub nth_beyond : (xs : List A) (k : ℕ) → length xs ≤ k → None ≡ nth xs k
-  nth_beyond [] k le = refl
-  nth_beyond (x ∷ xs) zero le = absurd (omega arith)
-  nth_beyond (x ∷ xs) (suc k) le = nth_beyond xs k (omega arith)
-
-  pub get_d_beyond : (xs : List A) (k : ℕ) (d : A) → length xs ≤ k → d ≡ get_or xs k d
-  get_d_beyond [] k d le = refl
-  get_d_beyond (x ∷ xs) zero d le = absurd (omega arith)
-  get_d_beyond (x ∷ xs) (suc k) d le = get_d_beyond xs k d (omega arith)
-
   -- entries are numbered from 0 without a gap
   pub nth_gapless : (xs : List A) (k : ℕ) → Present (nth xs (suc k)) → Present (nth xs k)
   nth_gapless [] k h = h
   nth_gapless (x ∷ xs) zero h = (x, refl)
   nth_gapless (x ∷ xs) (suc k) h = nth_gapless xs k h
-
-pub cell_beyond : {A : Type 0} (rows : List (List A)) (d : A) (i k : ℕ) → length rows ≤ i → d ≡ cell rows d i k
-cell_beyond rows d i k le = ap (λ row. get_or row k d) (get_d_beyond rows i [] le)
 
 -- PRODUCTIONS AS THEY ARE STORED
 
@@ -52,11 +34,11 @@ symbol_filled [] n k = none_filled n k
 symbol_filled (X ∷ α) n zero = refl
 symbol_filled (X ∷ α) n (suc k) = symbol_filled α n k
 
-pub right_at : (width : ℕ) (rules : List Rule) (p k : ℕ) →
+pub right_symbol_at : (width : ℕ) (rules : List Rule) (p k : ℕ) →
     cell (right_rows width rules) None p k ≡ symbol_at (nth rules p) k
-right_at width [] p k = refl
-right_at width (r ∷ rules) zero k = symbol_filled r.right _ k
-right_at width (r ∷ rules) (suc p) k = right_at width rules p k
+right_symbol_at width [] p k = refl
+right_symbol_at width (r ∷ rules) zero k = symbol_filled r.right _ k
+right_symbol_at width (r ∷ rules) (suc p) k = right_symbol_at width rules p k
 
 -- TESTS OF EACH ENTRY
 

@@ -1,6 +1,7 @@
 -- Rows of hints that pass their test hold lawful hints.
 use Rattle.std.proofs.Common.{◌≡◌, ℕ, suc, ◌<◌, ◌≤◌, Bool, true, false, cond, ◌&&◌, T, eqb, ◌⊎◌, List, [], ◌∷◌, map, length, get_or, Some, sym, refl, ap, subst, subst₂, inl, inr, ⊎_elim, eqb→eq}
 use lib.Dec.{eqb_refl}
+use Rattle.std.proofs.lemmas.List.{length-map}
 use Rattle.syntax.specs.declared.Symbol.{Symbol}
 use Rattle.syntax.specs.declared.Symbol.TheVariants.{Terminal, Nonterminal}
 use Rattle.syntax.specs.Grammar.{Rule, terminals, nonterminals, Kind, InRange, Every}
@@ -33,10 +34,6 @@ some_listed [] other = absurd (other refl)
 some_listed (y ∷ ys) other = (y, or_T (eqb y y) _ (inl (eqb_refl y)))
 
 module _ {A B : Type 0} where
-  length_map : (f : A → B) (xs : List A) → length (map f xs) ≡ length xs
-  length_map f [] = refl
-  length_map f (x ∷ xs) = ap suc (length_map f xs)
-
   every_mapped : (f : A → B) (Q : B → Type 0) (xs : List A) → Every (λ x. Q (f x)) xs → Every Q (map f xs)
   every_mapped f Q [] all = tt
   every_mapped f Q (x ∷ xs) all = (all.0, every_mapped f Q xs all.1)
@@ -188,7 +185,7 @@ module _ (R : Rows) (H : HintRows) (h : HintsTested R H) where
     first_kinds = λ n a k. let (x, e, t) = first_in n a k in in_listed Kind x.firsts (h.names n x e).1 a t;
     symbols_few = λ s. (symbols_of s).0.0;
     symbols_fit = λ s. (symbols_of s).2;
-    sets_few = λ s. subst (λ k. k ≤ deepest) (sym (length_map listed (get_or H.past_sets s []))) (sets_of s).0.0;
+    sets_few = λ s. subst (λ k. k ≤ deepest) (sym (length-map (get_or H.past_sets s []) listed)) (sets_of s).0.0;
     sets_fit = λ s.
         every_mapped listed (PastSet (automaton_of R) s) (get_or H.past_sets s [])
         (every_map (past_set (automaton_of R) s) (get_or H.past_sets s []) (sets_of s).1);

@@ -1,8 +1,8 @@
 -- Dense tables: rows of constants, of which each question reads the entry at an index.
-use Rattle.std.specs.Prelude.{ℕ, ◌-◌, List, [], ◌++◌, map, length, replicate, Some, None, Option, slice_index_or}
+use Rattle.std.specs.Prelude.{ℕ, ◌-◌, ◌≤◌, List, [], ◌++◌, map, length, replicate, Some, None, Option, slice_index_or}
 use Rattle.syntax.specs.declared.Production.{Production}
 use Rattle.syntax.specs.declared.Symbol.{Symbol}
-use Rattle.syntax.specs.Grammar.{Rule}
+use Rattle.syntax.specs.Grammar.{Rule, longest, terminals, nonterminals}
 use Rattle.table.specs.declared.Action.{Action}
 use Rattle.table.specs.declared.Action.TheVariants.{Reject}
 use Rattle.table.specs.Automaton.{Automaton, nth}
@@ -47,3 +47,8 @@ filled width r = map Some r.right ++ replicate (width - length r.right) None
 
 abbrev pub right_rows : ℕ → List Rule → List (List (Option Symbol))
 right_rows width = map (filled width)
+
+-- rows are no wider than the numbers that a grammar has
+abbrev pub WidthsFit : ℕ → ℕ → ℕ → Type 0
+WidthsFit right by_terminal by_nonterminal =
+    (right ≤ longest) × (by_terminal ≤ terminals) × (by_nonterminal ≤ nonterminals)

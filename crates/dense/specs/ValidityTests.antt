@@ -1,5 +1,5 @@
 -- What a valid table keeps together with its hints, as tests of all entries of their rows.
-use Rattle.std.specs.Prelude.{ℕ, Bool, true, false, not, ◌&&◌, ◌||◌, ltb, leb, List, [], ◌∷◌, length, ◌==◌, nat_le, nat_lt}
+use Rattle.std.specs.Prelude.{ℕ, Bool, true, false, not, ◌&&◌, ◌||◌, List, [], ◌∷◌, length, ◌==◌, nat_le, nat_lt}
 use Rattle.syntax.specs.declared.Symbol.{Symbol}
 use Rattle.syntax.specs.declared.Symbol.TheVariants.{Terminal, Nonterminal}
 use Rattle.syntax.specs.Grammar.{Rule, terminals, nonterminals}
@@ -50,8 +50,8 @@ module _ (M : Automaton) where
   abbrev pub item_fits : ℕ → ItemRow → Bool
   item_fits s i =
       is_state M s
-      && (given false (λ α. leb i.dot (length α)) (right_side M.grammar i.production)
-      && every (λ a. ltb a terminals) i.looks)
+      && (given false (λ α. nat_le i.dot (length α)) (right_side M.grammar i.production)
+      && every (λ a. nat_lt a terminals) i.looks)
 
 module _ (R : Rows) (H : HintRows) where
   -- whatever names a nonterminal names one of the grammar's

@@ -7,37 +7,31 @@ ghost use Rattle.table.specs.Automaton.{nth};
 ghost use Rattle.dense.specs.Rows.{cell};
 ghost use Rattle.dense.specs.Theorems.{TestedIsLawful, TestedIsValid};
 
+mod rows;
+
+pub use rows::{Dense, DenseRows, ValidRows};
+
 /// What stands in a row at `k`, if anything does.
 pub fn entry<T: Copy>(row: &[T], k: u8) -> Option<T>
     ensures { result ≡ nth row.now k }
 {
-    let place = k as usize;
-    if place < row.len() {
-        Some(row[place])
-    } else {
-        None
-    }
+    row.get(k as usize).copied()
 }
 
 /// What stands in a row at `k`, and `beyond` it that.
 pub fn entry_or<T: Copy>(row: &[T], k: u8, beyond: T) -> T
     ensures { result ≡ slice_index_or row.now k beyond }
 {
-    if (k as usize) < row.len() {
-        row[k as usize]
-    } else {
-        beyond
-    }
+    row.get(k as usize).copied().unwrap_or(beyond)
 }
 
 /// What stands in row `i` at `k`, and `beyond` the rows that.
 pub fn cell_or<T: Copy, const WIDTH: usize>(rows: &[[T; WIDTH]], i: u8, k: u8, beyond: T) -> T
     ensures { result ≡ cell rows.now beyond i k }
 {
-    if (i as usize) < rows.len() {
-        entry_or(&rows[i as usize], k, beyond)
-    } else {
-        beyond
+    match rows.get(i as usize) {
+        Some(row) => entry_or(row, k, beyond),
+        None => beyond,
     }
 }
 

@@ -1,7 +1,14 @@
 //! The rows of the practice table. Its grammar: a list is nothing, or a list and a word.
-ghost use Rattle.std.specs.Prelude.{◌≡◌};
-ghost use Rattle.practice.specs.Dense.{production_row, right_rows, incoming_row, default_row, action_rows, goto_rows};
+ghost use Rattle.std.proofs.Math.Dec.{lit≤};
+ghost use Rattle.table.specs.Lawful.{narrow};
+ghost use Rattle.table.specs.Validity.{Valid};
+ghost use Rattle.layout.specs.Records.{sheet};
+ghost use Rattle.layout.specs.Meaning.{automaton};
+ghost use Rattle.layout.specs.Practice.{practice_bytes};
+ghost use Rattle.wellformed.proofs.Lawful.{lawful_of};
+ghost use Rattle.wellformed.proofs.Practice.{practice_opens};
 
+use dense::{DenseRows, ValidRows};
 use syntax::{Production, Symbol};
 use table::Action;
 
@@ -9,64 +16,52 @@ const LIST: Option<Symbol> = Some(Symbol::Nonterminal(0));
 
 const WORD: Option<Symbol> = Some(Symbol::Terminal(1));
 
-const PRODUCTIONS: [Production; 2] = [
-    Production { left: 0, length: 0 },
-    Production { left: 0, length: 2 },
-];
+/// The rows of the practice table.
+#[derive(Clone, Copy, PartialEq, Eq, Debug)]
+pub struct PracticeRows;
 
-/// By production and place.
-const RIGHT_SYMBOLS: [[Option<Symbol>; 2]; 2] = [[None, None], [LIST, WORD]];
+impl DenseRows<2, 2, 1> for PracticeRows {
+    ghost meaning = { automaton (sheet practice_bytes) };
 
-/// By state.
-const INCOMING_SYMBOLS: [Option<Symbol>; 3] = [None, LIST, WORD];
+    ghost lawful = { lawful_of practice_bytes practice_opens };
 
-/// By state.
-const DEFAULTS: [Option<u8>; 3] = [Some(0), None, Some(1)];
+    fn productions() -> &'static [Production] {
+        &[
+            Production { left: 0, length: 0 },
+            Production { left: 0, length: 2 },
+        ]
+    }
 
-/// By state and terminal: END, a word.
-const ACTIONS: [[Action; 2]; 3] = [
-    [Action::Reject, Action::Reject],
-    [Action::Accept, Action::Shift(2)],
-    [Action::Reject, Action::Reject],
-];
+    fn right_symbols() -> &'static [[Option<Symbol>; 2]] {
+        &[[None, None], [LIST, WORD]]
+    }
 
-/// By state and nonterminal: a list.
-const GOTOS: [[Option<u8>; 1]; 3] = [[Some(1)], [None], [None]];
+    fn incoming() -> &'static [Option<Symbol>] {
+        &[None, LIST, WORD]
+    }
 
-// Each constant with what is specified of it.
+    fn defaults() -> &'static [Option<u8>] {
+        &[Some(0), None, Some(1)]
+    }
 
-pub(crate) fn productions() -> &'static [Production; 2]
-    ensures { result.now ≡ production_row }
-{
-    &PRODUCTIONS
+    // The terminals are END and a word.
+    fn actions() -> &'static [[Action; 2]] {
+        &[
+            [Action::Reject, Action::Reject],
+            [Action::Accept, Action::Shift(2)],
+            [Action::Reject, Action::Reject],
+        ]
+    }
+
+    fn gotos() -> &'static [[Option<u8>; 1]] {
+        &[[Some(1)], [None], [None]]
+    }
+
+    ghost widths = { (lit≤ tt, lit≤ tt, lit≤ tt) };
 }
 
-pub(crate) fn right_symbols() -> &'static [[Option<Symbol>; 2]; 2]
-    ensures { result.now ≡ right_rows }
-{
-    &RIGHT_SYMBOLS
-}
-
-pub(crate) fn incoming_symbols() -> &'static [Option<Symbol>; 3]
-    ensures { result.now ≡ incoming_row }
-{
-    &INCOMING_SYMBOLS
-}
-
-pub(crate) fn defaults() -> &'static [Option<u8>; 3]
-    ensures { result.now ≡ default_row }
-{
-    &DEFAULTS
-}
-
-pub(crate) fn actions() -> &'static [[Action; 2]; 3]
-    ensures { result.now ≡ action_rows }
-{
-    &ACTIONS
-}
-
-pub(crate) fn gotos() -> &'static [[Option<u8>; 1]; 3]
-    ensures { result.now ≡ goto_rows }
-{
-    &GOTOS
+impl ValidRows<2, 2, 1> for PracticeRows {
+    fn validity()
+        ensures { Valid narrow (automaton (sheet practice_bytes)) }
+    {}
 }
