@@ -21,7 +21,7 @@ pub struct Driven<T, S, K> {
     pub sink: K,
 }
 
-// A mark changes nothing, so that a reading by a table that was not checked goes on as if it were a report.
+// A mark changes nothing and asks for a table that was checked, so that a report stands for it.
 fn make<T: Table, S: Source, K: Sink>(reading: &mut Reading<T, S, K>, call: Call)
     ensures { Made T.Table S.Source.own K.Sink call reading.old reading.new }
 {
@@ -69,19 +69,7 @@ pub fn drive<T: Table, S: Source, K: Sink>(
     close(reading)
 }
 
-// The same with every call made, marks too.
-fn make_checked<T: CheckedTable, S: Source, K: Sink>(reading: &mut Reading<T, S, K>, call: Call)
-    ensures { Made T.Table S.Source.own K.Sink call reading.old reading.new }
-{
-    match call {
-        Call::Mark => {
-            let _ = reading.mark();
-        }
-        _ => make(reading, call),
-    }
-}
-
-/// The same by a table that was checked: marks are made too, and what is promised of valid tables holds of the run.
+/// The same by a table that was checked, so that what is promised of valid tables holds of the run.
 pub fn drive_checked<T: CheckedTable, S: Source, K: Sink>(
     table: T,
     source: S,
@@ -92,9 +80,5 @@ pub fn drive_checked<T: CheckedTable, S: Source, K: Sink>(
     ensures promise { Checked K.Sink.algebra (run_of T.Table S.Source.own K.Sink table source sink calls.now) }
 {
     table.validity();
-    let mut reading = Reading::new(table, source, sink);
-    for call in calls {
-        make_checked(&mut reading, *call);
-    }
-    close(reading)
+    drive(table, source, sink, calls)
 }

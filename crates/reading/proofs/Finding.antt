@@ -8,9 +8,7 @@ use Rattle.table.specs.Automaton.{Automaton}
 use Rattle.theory.proofs.Clash.{clash}
 use Rattle.source.specs.declared.SourceFault.{SourceFault}
 use Rattle.source.specs.Streams.{Stream, Ending, end, fault, answer, next}
-use Rattle.outcome.specs.declared.Halt.{Halt}
-use Rattle.outcome.specs.declared.Halt.TheVariants.{Source}
-use Rattle.machine.specs.Reading.{State, found, peeked, unless_default as unless_found, place_of_next, shifting}
+use Rattle.machine.specs.Reading.{State, found, peeked, unless_default as unless_found, shifting}
 use Rattle.reading.specs.declared.steps.Found.{Found}
 use Rattle.reading.specs.Steps.{listed, seen, unless_default, finding}
 
@@ -20,13 +18,6 @@ first [] = None
 first (t ∷ ts) = Some t
 
 module _ (act : ℕ → Action) where
-  fault_by : {h : Halt} (o : Option ℕ) (a : Result (Option Token) SourceFault) →
-      Err h ≡ unless_default o (seen act a) →
-      (f : SourceFault) × (h ≡ Source f) × (unless_found o (peeked act a) ≡ Err f)
-  fault_by None (Err f) e = (f, cc, refl)
-  fault_by None (Ok x) e = absurd (clash (cc))
-  fault_by (Some p) a e = absurd (clash (cc))
-
   found_by : (x : Found) (o : Option ℕ) (a : Result (Option Token) SourceFault) → Ok x ≡ unless_default o (seen act a) →
       unless_found o (peeked act a) ≡ Ok x.action
   found_by x None (Err f) e = absurd (clash (cc))
@@ -43,11 +34,6 @@ module _ (act : ℕ → Action) where
       let same : x ≡ record { action = Reduce p; next = None } = cc in absurd (not_reduce p (cc))
 
 module _ (M : Automaton) (s : ℕ) (stream : Stream) where
-  -- a fault of the source
-  pub fault_found : {h : Halt} → Err h ≡ finding M s stream →
-      (f : SourceFault) × (h ≡ Source f) × (found M s stream ≡ Err f)
-  fault_found e = fault_by (M.action s) (M.default s) (answer stream) e
-
   -- an action
   pub action_found : (x : Found) → Ok x ≡ finding M s stream → found M s stream ≡ Ok x.action
   action_found x e = found_by (M.action s) x (M.default s) (answer stream) e
@@ -56,10 +42,6 @@ module _ (M : Automaton) (s : ℕ) (stream : Stream) where
   pub next_found : (x : Found) → Ok x ≡ finding M s stream → ((p : ℕ) → x.action ≡ Reduce p → ⊥) →
       x.next ≡ first stream.tokens
   next_found x e not_reduce = next_by (M.action s) x (M.default s) stream.tokens stream.ending e not_reduce
-
-pub place_first : (ts : List Token) → place_of_next (listed (first ts)) ≡ place_of_next ts
-place_first [] = refl
-place_first (t ∷ ts) = refl
 
 pub shift_first : {V : Type 0} (R : Algebra V) (to : ℕ) (r : State V) (ts : List Token) →
     shifting R to r (listed (first ts)) ≡ shifting R to r ts

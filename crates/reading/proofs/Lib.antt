@@ -3,5 +3,4 @@ pub mod Finding
 pub mod Going
 pub mod Landings
 pub mod Making
-pub mod Rooms
 pub mod Stepping

@@ -3,10 +3,9 @@ use Rattle.std.proofs.Common.{◌≡◌, ℕ, ◌+◌, true, false, leb, List, S
 use Rattle.table.specs.Lawful.{narrow}
 use Rattle.table.specs.Validity.{Valid}
 use Rattle.table.specs.declared.Table as tables
-use Rattle.theory.proofs.Clash.{clash, none_some}
+use Rattle.theory.proofs.Clash.{none_some}
 use Rattle.source.specs.declared.Source as sources
 use Rattle.sink.specs.declared.Sink as sinks
-use Rattle.outcome.specs.declared.Outcome.{Outcome}
 use Rattle.outcome.specs.declared.Call.{Call}
 use Rattle.outcome.specs.declared.Call.TheVariants.{Turn, Stop, Mark}
 use Rattle.outcome.specs.declared.Declined.{Declined}
@@ -18,21 +17,9 @@ use Rattle.machine.specs.Runs.{Run}
 use Rattle.machine.proofs.Answering.{one_call_more}
 use Rattle.machine.proofs.Bounds.{bounds}
 use Rattle.machine.proofs.Promise.{promise}
-use Rattle.reading.specs.declared.Phase.{Phase}
-use Rattle.reading.specs.declared.Phase.TheVariants.{Running, Ended}
 use Rattle.reading.specs.declared.state.Reading.{Reading}
-use Rattle.reading.specs.Phases.{outcome_of, sound}
 use Rattle.reading.specs.Means.{reads, run_of, Made}
 use Rattle.reading.specs.Promises.{Kept, Checked, OfRuns, Finished}
-
--- phases
-
-pub has_ended : (p : Phase) (o : Outcome) → p ≡ Ended o → sound p ≡ true → ended (outcome_of p) ≡ true
-has_ended Running o is good = absurd (clash (cc))
-has_ended (Ended q) o is good = good
-
-pub has_not_ended : {p : Phase} → p ≡ Running → ended (outcome_of p) ≡ false
-has_not_ended is = ap (λ p. ended (outcome_of p)) is
 
 -- which calls are declined
 

@@ -1,4 +1,3 @@
 pub mod Means
-pub mod Phases
 pub mod Promises
 pub mod Steps

@@ -1,5 +1,5 @@
 -- What a reading stands for, by what its table, its source and its sink stand for.
-use Rattle.std.specs.Prelude.{◌≡◌, List, take, Some}
+use Rattle.std.specs.Prelude.{◌≡◌, List, Some}
 use Rattle.table.specs.declared.Table as tables
 use Rattle.source.specs.declared.Source as sources
 use Rattle.sink.specs.declared.Sink as sinks
@@ -9,18 +9,17 @@ use Rattle.machine.specs.Reading.{State}
 use Rattle.machine.specs.Calls.{called, declined}
 use Rattle.machine.specs.Runs.{Run, after, then_call}
 use Rattle.reading.specs.declared.state.Reading.{Reading}
-use Rattle.reading.specs.Phases.{outcome_of}
 
 module _ {T S K : Type 0} (table : tables.Ghosts T) (source : sources.Ghosts S) (sink : sinks.Ghosts K) where
-  -- the state of the machine: the meanings of the parts, the used cells, the steps and the outcome
+  -- the state of the machine: the meanings of the parts, the cells, the steps and the outcome
   abbrev pub reads : Reading T S K → State sink.Value
   reads r = record {
     table = table.meaning r.table;
-    cells = take r.used r.cells;
+    cells = r.cells.items;
     stack = sink.meaning r.sink;
     stream = source.meaning r.source;
     steps = r.steps;
-    outcome = outcome_of r.phase;
+    outcome = r.outcome;
   }
 
   -- the run of these calls on a reading that was made of these parts

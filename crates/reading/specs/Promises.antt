@@ -3,6 +3,7 @@ use Rattle.std.specs.Prelude.{◌≡◌, ℕ, ◌↔◌, List, Option, ◌≢◌
 use Rattle.syntax.specs.declared.Token.{Token}
 use Rattle.syntax.specs.Trees.{Tree, TreeOf}
 use Rattle.syntax.specs.Values.{Algebra}
+use Rattle.table.specs.declared.Slip.{Slip as WhySlip}
 use Rattle.table.specs.Lawful.{narrow}
 use Rattle.table.specs.declared.Table as tables
 use Rattle.source.specs.declared.Source as sources
@@ -28,7 +29,7 @@ module _ {V : Type 0} (R : Algebra V) (run : Run V) where
     pub one_tree : (w : List Token) (t u : Tree) →
         TreeOf run.table.grammar w t → TreeOf run.table.grammar w u → t ≡ u
     pub accepts_what_fits : ((after R run).outcome ≡ Accepted) ↔ FittingTree run
-    pub never_slips : (k : ℕ) → (after R run).outcome ≢ Halted (Slip k)
+    pub never_slips : (k : WhySlip) → (after R run).outcome ≢ Halted (Slip k)
     pub rejects_hopeless : (p : Option ℕ) → (after R run).outcome ≡ Rejected p → Hopeless run (after R run) p
     pub bounded : Bounded run (after R run)
 

@@ -1,10 +1,12 @@
 -- What the inner functions of a turn answer.
-use Rattle.std.specs.Prelude.{◌≡◌, ℕ, ◌+◌, ◌-◌, ◌≤◌, Bool, true, false, ◌&&◌, List, [], ◌∷◌, ◌++◌, length, take, Some, None, Ok, Err, Option, Result}
+use Rattle.std.specs.Prelude.{◌≡◌, ℕ, ◌+◌, ◌-◌, Bool, true, false, ◌&&◌, List, [], ◌∷◌, length, Some, None, Ok, Err, Option, Result}
 use Rattle.syntax.specs.declared.Token.{Token}
 use Rattle.syntax.specs.declared.Symbol.{Symbol}
 use Rattle.syntax.specs.Grammar.{Rule}
 use Rattle.syntax.specs.Values.{Algebra}
 use Rattle.table.specs.declared.Action.{Action}
+use Rattle.table.specs.declared.Slip.{Slip as WhySlip}
+use Rattle.table.specs.declared.Slip.TheVariants.{FewCells}
 use Rattle.table.specs.declared.Action.TheVariants.{Reduce}
 use Rattle.table.specs.Automaton.{Automaton, symbol_at}
 use Rattle.theory.specs.Machine.{same_symbol}
@@ -14,7 +16,7 @@ use Rattle.sink.specs.declared.Sink as sinks
 use Rattle.outcome.specs.declared.Halt.{Halt}
 use Rattle.outcome.specs.declared.Halt.TheVariants.{Source, Slip}
 use Rattle.outcome.specs.Numbers.{ended}
-use Rattle.machine.specs.Reading.{State, landing_from, halt, go_on, spend}
+use Rattle.machine.specs.Reading.{State, landing_from, halt, stepped, go_on, spend}
 use Rattle.reading.specs.declared.steps.Found.{Found}
 use Rattle.reading.specs.declared.steps.Landing.{Landing}
 use Rattle.reading.specs.declared.state.Reading.{Reading}
@@ -55,12 +57,12 @@ carrying M p k [] = true
 carrying M p k (s ∷ ss) = is_entered (M.incoming s) (symbol_at (M.grammar p) k) && carrying M p (k + 1) ss
 
 -- a slip, or the state t behind all but the last k cells
-abbrev pub landed : ℕ → Result ℕ ℕ → Result Landing Halt
-landed k (Err n) = Err (Slip n)
+abbrev pub landed : ℕ → Result ℕ WhySlip → Result Landing Halt
+landed k (Err why) = Err (Slip why)
 landed k (Ok t) = Ok (record { children = k; to = t })
 
 abbrev pub landed_by : Automaton → Option Rule → List ℕ → Result Landing Halt
-landed_by M None ss = Err (Slip 1)
+landed_by M None ss = Err (Slip FewCells)
 landed_by M (Some rule) ss = landed (length rule.right) (landing_from M rule ss)
 
 -- where a reduce by production p leads from cells
@@ -68,33 +70,33 @@ abbrev pub landing_by : Automaton → ℕ → List ℕ → Result Landing Halt
 landing_by M p ss = landed_by M (M.grammar p) ss
 
 module _ {V : Type 0} where
+  -- a step is counted
+  abbrev pub one_more : State V → State V
+  one_more r = stepped r.cells r.stack r.stream r
+
   -- a halt is noted last
   abbrev pub noted : {A : Type 0} → Result A Halt → State V → State V
   noted (Ok x) r = r
   noted (Err h) r = halt r h
+
+  -- a step that was made is counted, or its halt is noted
+  abbrev pub counted : {A : Type 0} → Result A Halt → State V → State V
+  counted (Ok x) r = one_more r
+  counted (Err h) r = halt r h
 
 module _ {V : Type 0} (R : Algebra V) where
   -- up to n steps, unless the reading has ended
   abbrev pub going : ℕ → State V → State V
   going n r = go_on R (ended r.outcome) (λ s. spend R n s) r
 
-  -- what is still to be done of n steps, when one was made or not
+  -- what is still to be done of n steps, when one was made, and is to be counted, or not
   abbrev pub onward : ℕ → Result Bool Halt → State V → State V
-  onward n (Ok true) r = going (n - 1) r
+  onward n (Ok true) r = going (n - 1) (one_more r)
   onward n (Ok false) r = r
   onward n (Err h) r = halt r h
 
--- what a step keeps of a reading
+-- what a step keeps of a reading until it is counted
 pub record Near {T S K : Type 0} (sink : sinks.Ghosts K) (old new : Reading T S K) : Type 0 where
   pub table_same : new.table ≡ old.table
   pub memory_kept : sink.grows old.sink new.sink
-  pub one_step : new.steps ≤ old.steps + 1
-
--- one step more, with the state t in the cell behind the first n
-pub record Pushed {T S K : Type 0} (n t : ℕ) (old new : Reading T S K) : Type 0 where
-  pub table_same : new.table ≡ old.table
-  pub source_same : new.source ≡ old.source
-  pub sink_same : new.sink ≡ old.sink
-  pub phase_same : new.phase ≡ old.phase
-  pub one_step : new.steps ≡ old.steps + 1
-  pub cells_are : take new.used new.cells ≡ take n old.cells ++ (t ∷ [])
+  pub steps_same : new.steps ≡ old.steps

@@ -1,12 +1,12 @@
 ghost use Rattle.std.specs.Prelude.{◌≡◌, []};
 ghost use Rattle.outcome.specs.declared.Call.TheVariants.{Turn, Stop, Mark, Report as Tell};
 ghost use Rattle.machine.specs.Calls.{report as told, turn_answer, stop_answer, mark_answer};
-ghost use Rattle.reading.specs.Phases.{outcome_of};
 ghost use Rattle.reading.specs.Means.{reads, run_of, Reaches, Made};
 ghost use Rattle.reading.specs.Promises.{Kept, Checked, OfRuns, Finished};
 
+use crate::MOST_STEPS;
 use crate::state::Reading;
-use crate::{MOST_STEPS, Phase};
+use arrayvec::ArrayVec;
 use outcome::{Declined, Outcome, Report};
 use sink::Sink;
 use source::Source;
@@ -22,19 +22,9 @@ impl<T: Table, S: Source, K: Sink> Reading<T, S, K> {
             table,
             source,
             sink,
-            cells: [0; 128],
-            used: 0,
+            cells: ArrayVec::new(),
             steps: 0,
-            phase: Phase::Running,
-        }
-    }
-
-    fn outcome(&self) -> Outcome
-        ensures { result ≡ outcome_of self.now.phase }
-    {
-        match self.phase {
-            Phase::Running => Outcome::More,
-            Phase::Ended(outcome) => outcome,
+            outcome: Outcome::More,
         }
     }
 
@@ -44,14 +34,16 @@ impl<T: Table, S: Source, K: Sink> Reading<T, S, K> {
         ensures answer { result ≡ turn_answer K.Sink.algebra n (reads T.Table S.Source.own K.Sink self.old) }
         ensures made { Made T.Table S.Source.own K.Sink (Turn n) self.old self.new }
     {
-        if let Phase::Ended(_) = self.phase {
+        if self.outcome.has_ended() {
             return Err(Declined::Ended { steps: self.steps });
         }
         if self.steps > MOST_STEPS - u64::from(n) {
             return Err(Declined::TooManySteps { steps: self.steps });
         }
-        self.spend(n);
-        Ok(self.outcome())
+        if let Err(halt) = self.advance(n) {
+            self.outcome = Outcome::Halted(halt);
+        }
+        Ok(self.outcome)
     }
 
     /// Ends the reading, stopped. Declined when it has ended.
@@ -59,10 +51,10 @@ impl<T: Table, S: Source, K: Sink> Reading<T, S, K> {
         ensures answer { result ≡ stop_answer K.Sink.algebra (reads T.Table S.Source.own K.Sink self.old) }
         ensures made { Made T.Table S.Source.own K.Sink Stop self.old self.new }
     {
-        if let Phase::Ended(_) = self.phase {
+        if self.outcome.has_ended() {
             return Err(Declined::Ended { steps: self.steps });
         }
-        self.phase = Phase::Ended(Outcome::Stopped);
+        self.outcome = Outcome::Stopped;
         Ok(())
     }
 
@@ -73,7 +65,7 @@ impl<T: Table, S: Source, K: Sink> Reading<T, S, K> {
         ensures promise { OfRuns T.Table S.Source.own K.Sink (Kept K.Sink.algebra) self.now }
     {
         Report {
-            outcome: self.outcome(),
+            outcome: self.outcome,
             steps: self.steps,
         }
     }
@@ -87,10 +79,7 @@ impl<T: Table, S: Source, K: Sink> Reading<T, S, K> {
             table,
             source,
             sink,
-            cells: _,
-            used: _,
-            steps: _,
-            phase: _,
+            ..
         } = self;
         (table, source, sink)
     }
@@ -104,9 +93,9 @@ impl<T: CheckedTable, S: Source, K: Sink> Reading<T, S, K> {
         ensures promise { OfRuns T.Table S.Source.own K.Sink (Checked K.Sink.algebra) self.now }
     {
         self.table.validity();
-        match self.phase {
-            Phase::Running => Err(Declined::BeforeEnd { steps: self.steps }),
-            Phase::Ended(_) => Ok(self.report()),
+        if !self.outcome.has_ended() {
+            return Err(Declined::BeforeEnd { steps: self.steps });
         }
+        Ok(self.report())
     }
 }

@@ -5,7 +5,6 @@ mod calls;
 mod state;
 mod steps;
 
-use outcome::Outcome;
 pub use state::Reading;
 
 /// How many cells a reading has.
@@ -13,10 +12,3 @@ pub(crate) const CELLS: usize = 128;
 
 /// How many steps a reading makes at most.
 pub(crate) const MOST_STEPS: u64 = 1_000_000_000_000;
-
-/// Whether a reading is on its way, or how it ended.
-#[derive(Clone, Copy)]
-pub enum Phase {
-    Running,
-    Ended(Outcome),
-}
