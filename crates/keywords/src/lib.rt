@@ -63,16 +63,12 @@ impl<S: Source> Source for Keywords<S> {
         (S.Source.kinded s.below) };
 
     fn peek(&mut self) -> Result<Option<Token>, SourceFault> {
-        match self.below.peek()? {
-            Some(token) => Ok(Some(self.words.rekind(token))),
-            None => Ok(None),
-        }
+        let token = self.below.peek()?;
+        Ok(token.map(|token| self.words.rekind(token)))
     }
 
     fn take(&mut self) -> Result<Option<Token>, SourceFault> {
-        match self.below.take()? {
-            Some(token) => Ok(Some(self.words.rekind(token))),
-            None => Ok(None),
-        }
+        let token = self.below.take()?;
+        Ok(token.map(|token| self.words.rekind(token)))
     }
 }

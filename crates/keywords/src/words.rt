@@ -1,51 +1,32 @@
-ghost use Rattle.std.specs.Prelude.{◌≡◌, ◌≤◌, true, [], take};
+ghost use Rattle.std.specs.Prelude.{◌≡◌, true, []};
 ghost use Rattle.streams.specs.Rekinded.{kind_of, rekind, is_listed, all_kinds};
 ghost use Rattle.keywords.specs.Adding.{add_answer, added};
 
 use crate::refusal::KeywordRefusal;
+use arrayvec::ArrayVec;
 use streams::{Keyword, is_kind};
-use syntax::Token;
+use syntax::{Token, WORD};
 
-// What stands in a place that no keyword has yet.
-const VACANT: Keyword = Keyword {
-    spelling: 0,
-    kind: 0,
-};
-
-// Up to 16 keywords, in the order in which they were listed: the first `count` of the array.
+// Up to 16 keywords, in the order in which they were listed.
 #[derive(Drop)]
 pub(crate) struct Words {
-    list: [Keyword; 16],
-    count: usize,
-    ghost few: { count ≤ 16 },
-    ghost kinds: { all_kinds (take count list) ≡ true },
+    list: ArrayVec<Keyword, 16>,
+    ghost kinds: { all_kinds list.items ≡ true },
 }
 
 impl Words {
     pub(crate) fn none() -> Words
-        ensures { take result.count result.list ≡ [] }
+        ensures { result.list.items ≡ [] }
     {
         Words {
-            list: [VACANT; 16],
-            count: 0,
+            list: ArrayVec::new(),
         }
     }
 
     // Lists a keyword, or refuses it and changes nothing.
     pub(crate) fn add(&mut self, keyword: Keyword) -> Result<(), KeywordRefusal>
-        ensures answer { result ≡ add_answer (take self.old.count self.old.list) keyword }
-        ensures after { take self.new.count self.new.list
-            ≡ added (take self.old.count self.old.list) keyword }
-    {
-        self.check(keyword)?;
-        self.list[self.count] = keyword;
-        self.count += 1;
-        Ok(())
-    }
-
-    // Whether a keyword can be listed.
-    fn check(&self, keyword: Keyword) -> Result<(), KeywordRefusal>
-        ensures { result ≡ add_answer (take self.now.count self.now.list) keyword }
+        ensures answer { result ≡ add_answer self.old.list.items keyword }
+        ensures after { self.new.list.items ≡ added self.old.list.items keyword }
     {
         if !is_kind(keyword.kind) {
             return Err(KeywordRefusal::KindOutOfRange);
@@ -53,49 +34,41 @@ impl Words {
         if keyword.spelling == 0 {
             return Err(KeywordRefusal::NoSpelling);
         }
-        if is_listed(&self.list[0..self.count], keyword.spelling) {
+        if self.is_listed(keyword.spelling) {
             return Err(KeywordRefusal::AlreadyListed);
         }
-        if self.count >= 16 {
-            return Err(KeywordRefusal::NoRoom);
-        }
-        Ok(())
+        self.list
+            .try_push(keyword)
+            .map_err(|_| KeywordRefusal::NoRoom)
     }
 
     // The token with the kind that it has among the keywords.
     pub(crate) fn rekind(&self, token: Token) -> Token
-        ensures { result ≡ rekind (take self.now.count self.now.list) token }
+        ensures { result ≡ rekind self.now.list.items token }
     {
-        if token.kind != 1 {
+        if token.kind != WORD {
             return token;
         }
         Token {
-            kind: kind_of(&self.list[0..self.count], token.value),
+            kind: self.kind_of(token.value),
             ..token
         }
     }
-}
 
-// Whether one of the keywords has this spelling.
-fn is_listed(words: &[Keyword], spelling: u64) -> bool
-    ensures { result ≡ is_listed words.now spelling }
-{
-    for word in words {
-        if word.spelling == spelling {
-            return true;
-        }
+    // Whether one of the keywords has this spelling.
+    fn is_listed(&self, spelling: u64) -> bool
+        ensures { result ≡ is_listed self.now.list.items spelling }
+    {
+        self.list.iter().any(|word| word.spelling == spelling)
     }
-    false
-}
 
-// The kind of a word with this value.
-fn kind_of(words: &[Keyword], value: u64) -> u8
-    ensures { result ≡ kind_of words.now value }
-{
-    for word in words {
-        if word.spelling == value {
-            return word.kind;
-        }
+    // The kind of a word with this value.
+    fn kind_of(&self, value: u64) -> u8
+        ensures { result ≡ kind_of self.now.list.items value }
+    {
+        self.list
+            .iter()
+            .find(|word| word.spelling == value)
+            .map_or(WORD, |word| word.kind)
     }
-    1
 }

@@ -1,2 +1,3 @@
+pub mod Ahead
 pub mod Looking
 pub mod Opening

@@ -1,13 +1,13 @@
-ghost use Rattle.std.specs.Prelude.{◌≡◌, ◌≤◌, false, [], length, Ok};
+ghost use Rattle.std.specs.Prelude.{◌≡◌, ◌≤◌, true, [], length, Some, Ok, Err, IfOk, MatchResult};
 ghost use Rattle.lexing.specs.Plans.{lexed_from};
 ghost use Rattle.lexing.specs.Reading.{TheReading};
-ghost use Rattle.lexer.specs.Looking.{is_unread, unread, stream, stream_kinded};
+ghost use Rattle.lexer.specs.Ahead.{with_ahead, has_kind};
+ghost use Rattle.lexer.specs.Looking.{unread, stream, stream_kinded};
 ghost use Rattle.lexer.specs.Opening.{open_answer, open_after};
 
 use crate::Lexer;
-use crate::ahead::Ahead;
 use crate::opening::PlanRefusal;
-use crate::scan::{item, skip_blanks};
+use crate::scan::{blanks, item};
 use source::{Layered, Source, SourceFault};
 use syntax::Token;
 
@@ -19,66 +19,63 @@ impl<'a> Lexer<'a> {
         Lexer::over(&[])
     }
 
+    /// A lexer of the whole of a plan, unless the plan is refused.
+    pub fn new(plan: &'a [u8]) -> Result<Lexer<'a>, PlanRefusal>
+        ensures answer { MatchResult result
+            (λ _. open_answer plan.now ≡ Ok tt)
+            (λ refusal. open_answer plan.now ≡ Err refusal) }
+        ensures stream { IfOk result (λ lexer. stream lexer ≡ lexed_from 0 plan.now) }
+        ensures reading { IfOk result (λ lexer. TheReading plan.now (stream lexer)) }
+    {
+        if plan.len() > 65_535 {
+            return Err(PlanRefusal::TooLong);
+        }
+        Ok(Lexer::over(plan))
+    }
+
     /// Turns to the whole of a plan, or refuses it and stays as it is.
     pub fn open(&mut self, plan: &'a [u8]) -> Result<(), PlanRefusal>
         ensures answer { result ≡ open_answer plan.now }
         ensures after { stream self.new ≡ open_after plan.now (stream self.old) }
         ensures reading { result ≡ Ok tt → TheReading plan.now (stream self.new) }
     {
-        if plan.len() > 65_535 {
-            return Err(PlanRefusal::TooLong);
-        }
-        *self = Lexer::over(plan);
+        *self = Lexer::new(plan)?;
         Ok(())
     }
 
-    // A lexer at the start of a plan. No token is remembered yet.
+    // A lexer at the start of a plan, which looks at the first item at once.
     fn over(plan: &'a [u8]) -> Lexer<'a>
         requires { length plan.now ≤ 65535 }
         ensures { stream result ≡ lexed_from 0 plan.now }
     {
-        let token = Token {
-            kind: 1,
-            place: 0,
-            length: 0,
-            value: 0,
-        };
-        Lexer {
+        let mut lexer = Lexer {
             plan,
             at: 0,
-            ahead: Ahead::Unread,
-            token,
-        }
+            ahead: Ok(None),
+        };
+        lexer.advance();
+        lexer
     }
 
-    // Scans the item behind the position and remembers what it is.
-    fn scan(&mut self)
-        ensures same { stream self.new ≡ unread self.old }
-        ensures looked { is_unread self.new.ahead ≡ false }
+    // Looks at the item behind the position.
+    fn advance(&mut self)
+        ensures { stream self.new ≡ unread self.old }
     {
-        let start = skip_blanks(self.plan, self.at);
+        self.ahead = self.scan();
+    }
+
+    // Scans the item behind the position. Behind a token, the position moves on.
+    fn scan(&mut self) -> Result<Option<Token>, SourceFault>
+        ensures scanned { with_ahead result (unread self.new) ≡ unread self.old }
+        ensures kind { has_kind result ≡ true }
+    {
+        let start = self.at + blanks(&self.plan[self.at..]);
         if start == self.plan.len() {
-            self.ahead = Ahead::Ended;
-            return;
+            return Ok(None);
         }
-        match item(&self.plan[start..], start as u32) {
-            Ok(token) => {
-                self.at = start + token.length as usize;
-                self.token = token;
-                self.ahead = Ahead::Seen;
-            }
-            Err(fault) => self.ahead = Ahead::Stuck(fault),
-        }
-    }
-
-    // Sees to it that the item behind the position is known: nothing is unread behind a look.
-    fn look(&mut self)
-        ensures same { stream self.new ≡ stream self.old }
-        ensures looked { is_unread self.new.ahead ≡ false }
-    {
-        if let Ahead::Unread = self.ahead {
-            self.scan();
-        }
+        let token = item(&self.plan[start..], start as u32)?;
+        self.at = start + token.length as usize;
+        Ok(Some(token))
     }
 }
 
@@ -98,23 +95,14 @@ impl Source for Lexer<'_> {
     ghost kinded = { stream_kinded };
 
     fn peek(&mut self) -> Result<Option<Token>, SourceFault> {
-        self.look();
-        match self.ahead {
-            Ahead::Seen => Ok(Some(self.token)),
-            Ahead::Stuck(fault) => Err(fault),
-            Ahead::Ended | Ahead::Unread => Ok(None),
-        }
+        self.ahead
     }
 
     fn take(&mut self) -> Result<Option<Token>, SourceFault> {
-        self.look();
-        match self.ahead {
-            Ahead::Seen => {
-                self.ahead = Ahead::Unread;
-                Ok(Some(self.token))
-            }
-            Ahead::Stuck(fault) => Err(fault),
-            Ahead::Ended | Ahead::Unread => Ok(None),
+        let answer = self.ahead;
+        if let Ok(Some(_)) = answer {
+            self.advance();
         }
+        answer
     }
 }

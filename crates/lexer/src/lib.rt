@@ -2,14 +2,13 @@
 #![tactic(auto)]
 
 ghost use Rattle.std.specs.Prelude.{◌≡◌, ◌≤◌, true, length};
-ghost use Rattle.streams.specs.Listed.{is_kind};
+ghost use Rattle.lexer.specs.Ahead.{has_kind};
 
-use crate::ahead::Ahead;
 pub use opening::PlanRefusal;
+use source::SourceFault;
 pub use spell::spelling;
 use syntax::Token;
 
-mod ahead;
 mod calls;
 mod opening;
 mod scan;
@@ -19,10 +18,11 @@ mod spell;
 #[derive(Drop)]
 pub struct Lexer<'a> {
     plan: &'a [u8],
+    // Behind the token that comes next, if one does.
     at: usize,
-    ahead: Ahead,
-    token: Token,
+    // What a peek answers: the lexer looks one item ahead.
+    ahead: Result<Option<Token>, SourceFault>,
     ghost short: { length plan.now ≤ 65535 },
     ghost within: { at ≤ length plan.now },
-    ghost kind: { is_kind token.kind ≡ true },
+    ghost kind: { has_kind ahead ≡ true },
 }

@@ -1,5 +1,8 @@
-ghost use Rattle.std.specs.Prelude.{◌≡◌};
+ghost use Rattle.std.specs.Prelude.{◌≡◌, Some};
+ghost use Rattle.syntax.specs.Told.{number_at_place};
 ghost use Rattle.lexer.specs.Opening.{number as number_of, place as place_of};
+
+use std::fmt;
 
 /// Why a plan is not opened: it has more than 65,535 bytes.
 #[derive(Clone, Copy, PartialEq, Eq, Debug)]
@@ -22,5 +25,14 @@ impl PlanRefusal {
         match self {
             PlanRefusal::TooLong => 0,
         }
+    }
+}
+
+/// Its number and its place, as in `8 at 0`.
+impl fmt::Display for PlanRefusal {
+    ghost output = { λ f. Some (number_at_place (number_of f) (place_of f)) };
+
+    fn fmt<W: fmt::Write>(&self, f: &mut fmt::Formatter<W>) -> fmt::Result {
+        write!(f, "{} at {}", self.number(), self.place())
     }
 }

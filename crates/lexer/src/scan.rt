@@ -1,27 +1,22 @@
-ghost use Rattle.std.specs.Prelude.{◌≡◌, ◌+◌, ◌<◌, ◌≤◌, length, drop, slice_index};
-ghost use Rattle.lexing.specs.Plans.{is_blank, is_letter, is_digit, mark_kind, run};
+ghost use Rattle.std.specs.Prelude.{◌≡◌, ◌<◌, ◌≤◌, length, slice_index};
+ghost use Rattle.lexing.specs.Plans.{is_blank, is_letter, is_digit, mark_kind, run, spelled, token};
 ghost use Rattle.lexing.specs.Plans.{word as word_of, numeral as numeral_of, item as item_of};
 
 use source::{BOTTOM, SourceFault};
-use syntax::Token;
+use syntax::{NUMBER, Token, WORD};
 
-// The first place, from `at` on, that has no blank.
-pub(crate) fn skip_blanks(plan: &[u8], at: usize) -> usize
-    requires { at ≤ length plan.now }
-    ensures value { result ≡ at + length (run is_blank (drop at plan.now)) }
-    ensures within { result ≤ length plan.now }
+// How many blanks come first.
+pub(crate) fn blanks(rest: &[u8]) -> usize
+    ensures value { result ≡ length (run is_blank rest.now) }
+    ensures within { result ≤ length rest.now }
 {
-    let mut start = at;
-    while start < plan.len() && is_blank(plan[start]) {
-        start += 1;
-    }
-    start
+    rest.iter().take_while(|byte| is_blank(**byte)).count()
 }
 
 fn is_blank(byte: u8) -> bool
     ensures { result ≡ is_blank byte }
 {
-    byte == b'\n' || byte == b' '
+    matches!(byte, b'\n' | b' ')
 }
 
 // The item that comes first: a longest run of letters or of digits, or a character that is a token of its own.
@@ -34,12 +29,7 @@ pub(crate) fn item(rest: &[u8], place: u32) -> Result<Token, SourceFault>
         'a'..='z' => word(rest, place),
         '0'..='9' => numeral(rest, place),
         _ => match mark_kind(first) {
-            Some(kind) => Ok(Token {
-                kind,
-                place,
-                length: 1,
-                value: 0,
-            }),
+            Some(kind) => Ok(token(kind, place, 1, 0)),
             None => Err(SourceFault::UnknownByte {
                 place,
                 layer: BOTTOM,
@@ -72,14 +62,13 @@ fn mark_kind(byte: u8) -> Option<u8>
 }
 
 // The word that comes first. The ninth letter is a fault, so that no run is longer than that to look at.
-pub(crate) fn word(rest: &[u8], place: u32) -> Result<Token, SourceFault>
+fn word(rest: &[u8], place: u32) -> Result<Token, SourceFault>
     ensures { result ≡ word_of place (run is_letter rest.now) }
 {
-    let mut length: u32 = 0;
     let mut value: u64 = 0;
-    for byte in rest {
+    for (length, byte) in rest.iter().enumerate() {
         if !byte.is_ascii_lowercase() {
-            break;
+            return Ok(token(WORD, place, length as u32, value));
         }
         if length == 8 {
             return Err(SourceFault::LongWord {
@@ -87,15 +76,9 @@ pub(crate) fn word(rest: &[u8], place: u32) -> Result<Token, SourceFault>
                 layer: BOTTOM,
             });
         }
-        value = value * 256 + *byte as u64;
-        length += 1;
+        value = value * 256 + u64::from(*byte);
     }
-    Ok(Token {
-        kind: 1,
-        place,
-        length,
-        value,
-    })
+    Ok(token(WORD, place, rest.len() as u32, value))
 }
 
 // The number that comes first.
@@ -103,25 +86,41 @@ fn numeral(rest: &[u8], place: u32) -> Result<Token, SourceFault>
     requires { length rest.now ≤ 65535 }
     ensures { result ≡ numeral_of place (run is_digit rest.now) }
 {
-    let mut length: u32 = 0;
     let mut value: u64 = 0;
-    for byte in rest {
+    for (length, byte) in rest.iter().enumerate() {
         if !byte.is_ascii_digit() {
-            break;
+            return Ok(token(NUMBER, place, length as u32, value));
         }
-        value = value * 10 + (*byte - b'0') as u64;
+        value = value * 10 + u64::from(*byte - b'0');
         if value > 4_294_967_295 {
             return Err(SourceFault::LargeNumber {
                 place,
                 layer: BOTTOM,
             });
         }
-        length += 1;
     }
-    Ok(Token {
-        kind: 2,
+    Ok(token(NUMBER, place, rest.len() as u32, value))
+}
+
+fn token(kind: u8, place: u32, length: u32, value: u64) -> Token
+    ensures { result ≡ token kind place length value }
+{
+    Token {
+        kind,
         place,
         length,
         value,
-    })
+    }
+}
+
+// The number that letters stand for: their codes in base 256.
+pub(crate) fn spelled(letters: &[u8]) -> u64
+    requires { length letters.now ≤ 8 }
+    ensures { result ≡ spelled letters.now }
+{
+    let mut value = 0;
+    for letter in letters {
+        value = value * 256 + u64::from(*letter);
+    }
+    value
 }

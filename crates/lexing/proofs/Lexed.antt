@@ -1,6 +1,8 @@
 -- What the meaning of a plan's bytes is, item by item.
-use Rattle.std.proofs.Common.{◌≡◌, ℕ, zero, suc, pred, ◌+◌, ◌<◌, ◌≤◌, Bool, true, false, List, [], ◌∷◌, length, get_or, drop, Some, None, Ok, Err, Option, sym, refl, ap, ◌∙◌, subst, add-zero, arith, length-drop, drop-drop}
+use Rattle.std.proofs.Common.{◌≡◌, ℕ, zero, suc, pred, ◌+◌, ◌<◌, ◌≤◌, true, false, List, [], ◌∷◌, length, get_or, drop, Some, None, Ok, Err, Option, sym, refl, ap, ◌∙◌, subst, ap₂, add-zero, arith, length-drop, drop-drop}
+use Rattle.std.specs.List.{prefix_len}
 use Rattle.std.proofs.lemmas.List.{drop_more, drop_all, get_or-drop}
+use Rattle.std.proofs.lemmas.List.Folds.{length-prefix_len}
 use Rattle.std.proofs.lemmas.Bool.{cond-true, cond-false, cond_both}
 use Rattle.syntax.specs.declared.Token.{Token}
 use Rattle.source.specs.declared.SourceFault.{SourceFault}
@@ -19,15 +21,12 @@ use Rattle.lexing.specs.Plans.{
   lexed_from,
 }
 use Rattle.lexing.proofs.Items.{word_cases, numeral_cases, item_cases}
-use Rattle.lexing.proofs.Runs.{length_run_le, run_behind}
+use Rattle.lexing.proofs.Runs.{length_run_le, run_behind, run_some}
 
 -- an item of at most m bytes, and at least one
 abbrev Within : ℕ → Item → Type 0
 Within m (Ok t) = (1 ≤ t.length) × (t.length ≤ m)
 Within m (Err f) = Unit {0}
-
-some_run : (f : ℕ → Bool) (b : ℕ) (bs : List ℕ) → f b ≡ true → 1 ≤ length (run f (b ∷ bs))
-some_run f b bs pass = omega (arith, ap length (cond-true (f b) (b ∷ run f bs) [] pass))
 
 mark_within : (m p : ℕ) (k : Option ℕ) → 1 ≤ m → Within m (mark p k)
 mark_within m p (Some k) h = (omega arith, h)
@@ -38,9 +37,9 @@ item_within p b bs =
     let all = b ∷ bs in
     item_cases (Within (length all)) p b all
     (λ letter. word_cases (Within (length all)) p (run is_letter all)
-    (λ _. (some_run is_letter b bs letter, length_run_le is_letter all)) (λ _. tt))
+    (λ _. (run_some is_letter all 0 (omega arith) letter, length_run_le is_letter all)) (λ _. tt))
     (λ digit. numeral_cases (Within (length all)) p (run is_digit all)
-    (λ _. (some_run is_digit b bs digit, length_run_le is_digit all)) (λ _. tt))
+    (λ _. (run_some is_digit all 0 (omega arith) digit, length_run_le is_digit all)) (λ _. tt))
     (λ _ _. mark_within _ p (mark_kind b) (omega arith))
 
 lexed_skip : (p n : ℕ) (bs : List ℕ) → lexed p n bs ≡ lexed (p + n) 0 (drop n bs)
@@ -97,12 +96,12 @@ module _ (plan : List ℕ) (p : ℕ) where
 
 -- with the blanks at place p passed over
 skip_blanks :
-    (p : ℕ) (bs : List ℕ) → lexed (p + length (run is_blank bs)) 0 (drop (length (run is_blank bs)) bs) ≡ lexed p 0 bs
+    (p : ℕ) (bs : List ℕ) → lexed (p + prefix_len is_blank bs) 0 (drop (prefix_len is_blank bs) bs) ≡ lexed p 0 bs
 skip_blanks p [] = ap (λ q. lexed q 0 []) (add-zero p)
 skip_blanks p (b ∷ bs) =
-    cond_both (is_blank b) (b ∷ run is_blank bs) []
-    (λ r. lexed (p + length r) 0 (drop (length r) (b ∷ bs)) ≡ lexed p 0 (b ∷ bs))
-    (λ yes'. ap (λ q. lexed q 0 (drop (length (run is_blank bs)) bs)) (omega arith)
+    cond_both (is_blank b) (1 + prefix_len is_blank bs) 0 (λ n. lexed (p + n) 0 (drop n (b ∷ bs)) ≡ lexed p 0 (b ∷ bs))
+    (λ yes'. let on : 1 + prefix_len is_blank bs ≡ suc (prefix_len is_blank bs) = omega arith in
+    ap₂ (λ q n. lexed q 0 (drop n (b ∷ bs))) (omega arith) on
     ∙ skip_blanks (p + 1) bs ∙ sym (blank_front p b bs yes'))
     (λ _. ap (λ q. lexed q 0 (b ∷ bs)) (add-zero p))
 
@@ -110,8 +109,9 @@ skip_blanks p (b ∷ bs) =
 module _ (plan : List ℕ) (p q : ℕ) (h : q ≡ p + length (run is_blank (drop p plan))) where
   pub behind_blanks : lexed_from q plan ≡ lexed_from p plan
   behind_blanks =
-      ap (λ k. lexed_from k plan) h
-      ∙ ap (lexed (p + length (run is_blank (drop p plan))) 0) (sym (drop-drop _ p plan))
+      let n = prefix_len is_blank (drop p plan) in
+      let at : q ≡ p + n = omega (arith, length-prefix_len is_blank (drop p plan)) in
+      ap (λ k. lexed_from k plan) at ∙ ap (lexed (p + n) 0) (sym (drop-drop n p plan))
       ∙ skip_blanks p (drop p plan)
 
   pub no_blank_there : q < length plan → is_blank (get_or plan q 0) ≡ false

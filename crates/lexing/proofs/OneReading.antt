@@ -31,7 +31,7 @@ use Rattle.lexing.proofs.Runs.{
   run_passes,
   run_behind,
   run_is,
-  run_more,
+  run_some,
   word_ok,
   word_err,
   numeral_ok,
@@ -60,7 +60,7 @@ module _ (plan : List ℕ) where
 
     the_run : Run plan f p (p + length bytes)
     the_run = record {
-      some = omega (arith, ap length (run_more f plan p lt first));
+      some = omega (arith, run_some f plan p lt first);
       within = omega (arith, length_run_le f (drop p plan), length-drop p plan);
       passes = λ k from to.
           let j : k ≡ p + (k - p) = omega arith in

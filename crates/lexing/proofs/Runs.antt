@@ -1,67 +1,41 @@
--- The longest run at the front, byte by byte, and what it comes to as a word and as a number.
-use Rattle.std.proofs.Common.{◌≡◌, ℕ, zero, suc, ◌+◌, ◌*◌, ◌^◌, ◌<◌, ◌≤◌, Bool, true, false, leb, List, [], ◌∷◌, map, length, get_or, take, drop, Ok, Err, sym, refl, ap, ◌∙◌, ap₂, ⊎_elim, arith, pow_mono, pow-add}
-use Rattle.std.specs.Int.Digits.{number_from_digits_after}
-use Rattle.std.proofs.lemmas.Int.Digits.{number_after_ge}
-use Rattle.std.proofs.lemmas.List.{at_drop_more, at_drop_all}
-use Rattle.std.proofs.lemmas.Bool.{cases_Bool, cond-true, cond-false, cond_both, le-leb, lt-leb}
+-- The longest run at the front, and what it comes to as a word and as a number.
+use Rattle.std.proofs.Common.{◌≡◌, ℕ, ◌+◌, ◌*◌, ◌^◌, ◌<◌, ◌≤◌, Bool, true, false, leb, List, map, length, get_or, take, drop, Ok, Err, sym, refl, ap, ◌∙◌, ap₂, ⊎_elim, arith, pow-add}
+use Rattle.std.specs.Int.Digits.{number_from_digits}
+use Rattle.std.proofs.lemmas.Int.Digits.{number_more, number_push, number_after_append, number_after_ge}
+use Rattle.std.proofs.lemmas.List.{length-take-le, map-append, map_more, take-append-drop, take-take}
+use Rattle.std.proofs.lemmas.List.Sums.{prefix_len-drop_yes, prefix_len-le-length, prefix_len_is, prefix_len_passes, prefix_len_stops}
+use Rattle.std.proofs.lemmas.List.Folds.{length-prefix_len}
+use Rattle.std.proofs.lemmas.Bool.{true≢false, cases_lt, cond-true, cond-false, le-leb, lt-leb}
 use Rattle.source.specs.declared.SourceFault.TheVariants.{LongWord, LargeNumber}
 use Rattle.lexing.specs.Plans.{is_letter, is_digit, run, spelled, digit, decimal, token, word, numeral}
 
-module _ (f : ℕ → Bool) where
-  pub length_run_le : (bs : List ℕ) → length (run f bs) ≤ length bs
-  length_run_le [] = omega arith
-  length_run_le (b ∷ bs) =
-      cond_both (f b) (b ∷ run f bs) [] (λ r. length r ≤ length (b ∷ bs))
-      (λ _. omega (arith, length_run_le bs))
-      (λ _. omega arith)
+module _ (f : ℕ → Bool) (bs : List ℕ) where
+  pub length_run_le : length (run f bs) ≤ length bs
+  length_run_le = omega (arith, length-prefix_len f bs, prefix_len-le-length f bs)
 
-  front_yes : (b : ℕ) (bs : List ℕ) → f b ≡ true → run f (b ∷ bs) ≡ b ∷ run f bs
-  front_yes b bs pass = cond-true (f b) (b ∷ run f bs) [] pass
-
-  front_no : (b : ℕ) (bs : List ℕ) → f b ≡ false → run f (b ∷ bs) ≡ []
-  front_no b bs stop = cond-false (f b) (b ∷ run f bs) [] stop
+  -- so many bytes at the front as the run has are the run
+  pub run_front : (n : ℕ) → n ≡ length (run f bs) → take n bs ≡ run f bs
+  run_front n h = ap (λ k. take k bs) (h ∙ length-prefix_len f bs)
 
   -- each byte of the run passes
-  pub run_passes : (bs : List ℕ) (k : ℕ) → k < length (run f bs) → f (get_or bs k 0) ≡ true
-  run_passes [] k h = absurd (omega arith)
-  run_passes (b ∷ bs) zero h =
-      ⊎_elim (λ pass. pass) (λ stop. absurd (omega (arith, ap length (front_no b bs stop)))) (cases_Bool (f b))
-  run_passes (b ∷ bs) (suc k) h =
-      ⊎_elim
-      (λ pass. run_passes bs k (omega (arith, ap length (front_yes b bs pass))))
-      (λ stop. absurd (omega (arith, ap length (front_no b bs stop))))
-      (cases_Bool (f b))
+  pub run_passes : (k : ℕ) → k < length (run f bs) → f (get_or bs k 0) ≡ true
+  run_passes k h = prefix_len_passes f bs k 0 (omega (arith, length-prefix_len f bs))
 
   -- the byte behind it does not
-  pub run_behind : (bs : List ℕ) → length (run f bs) < length bs → f (get_or bs (length (run f bs)) 0) ≡ false
-  run_behind [] h = absurd (omega arith)
-  run_behind (b ∷ bs) h =
-      ⊎_elim
-      (λ pass. ap (λ r. f (get_or (b ∷ bs) (length r) 0)) (front_yes b bs pass)
-      ∙ run_behind bs (omega (arith, ap length (front_yes b bs pass))))
-      (λ stop. ap (λ r. f (get_or (b ∷ bs) (length r) 0)) (front_no b bs stop) ∙ stop)
-      (cases_Bool (f b))
+  pub run_behind : length (run f bs) < length bs → f (get_or bs (length (run f bs)) 0) ≡ false
+  run_behind h =
+      let e = length-prefix_len f bs in
+      ap (λ n. f (get_or bs n 0)) e ∙ prefix_len_stops f bs 0 (omega arith)
 
   -- a front of which every byte passes, with a byte behind it that does not, is the run
   pub run_is :
-      (bs : List ℕ) (n : ℕ) → n ≤ length bs → ((k : ℕ) → k < n → f (get_or bs k 0) ≡ true)
+      (n : ℕ) → n ≤ length bs → ((k : ℕ) → k < n → f (get_or bs k 0) ≡ true)
       → (n < length bs → f (get_or bs n 0) ≡ false) → run f bs ≡ take n bs
-  run_is [] zero few passes stops = refl
-  run_is [] (suc n) few passes stops = absurd (omega arith)
-  run_is (b ∷ bs) zero few passes stops = front_no b bs (stops (omega arith))
-  run_is (b ∷ bs) (suc n) few passes stops =
-      front_yes b bs (passes 0 (omega arith))
-      ∙ ap (λ r. b ∷ r) (run_is bs n (omega arith) (λ k h. passes (suc k) (omega arith)) (λ h. stops (omega arith)))
+  run_is n few passes stops = ap (λ k. take k bs) (prefix_len_is f bs n 0 few passes stops)
 
-  module _ (bs : List ℕ) (i : ℕ) where
-    pub run_more : i < length bs → f (get_or bs i 0) ≡ true → run f (drop i bs) ≡ get_or bs i 0 ∷ run f (drop (i + 1) bs)
-    run_more h pass = at_drop_more (run f) bs i 0 h ∙ cond-true _ _ _ pass
-
-    pub run_stops : i < length bs → f (get_or bs i 0) ≡ false → run f (drop i bs) ≡ []
-    run_stops h stop = at_drop_more (run f) bs i 0 h ∙ cond-false _ _ _ stop
-
-    pub run_ends : length bs ≤ i → run f (drop i bs) ≡ []
-    run_ends h = at_drop_all (run f) bs i h
+  -- from a byte that passes on, there is a run
+  pub run_some : (i : ℕ) → i < length bs → f (get_or bs i 0) ≡ true → 1 ≤ length (run f (drop i bs))
+  run_some i h pass = omega (arith, length-prefix_len f (drop i bs), prefix_len-drop_yes f bs i 0 h pass)
 
 -- a word and a number, by their two cases
 module _ (p : ℕ) (bs : List ℕ) where
@@ -79,97 +53,76 @@ module _ (p : ℕ) (bs : List ℕ) where
       let t = token 2 p (length bs) (decimal bs) in
       sym (cond-false (leb (decimal bs) 4294967295) (Ok t) _ (lt-leb _ 4294967295 h))
 
--- i bytes of the run are passed, and they come to v so far
-pub record SoFar (f : ℕ → Bool) (value : ℕ → List ℕ → ℕ) (bs : List ℕ) (i v : ℕ) : Type 0 where
-  pub left : length (run f (drop i bs)) + i ≡ length (run f bs)
-  pub comes_to : value v (run f (drop i bs)) ≡ value 0 (run f bs)
+-- the first i bytes pass
+abbrev pub Passing : (ℕ → Bool) → List ℕ → ℕ → Type 0
+Passing f bs i = (k : ℕ) → k < i → f (get_or bs k 0) ≡ true
 
-module _ (f : ℕ → Bool) (value : ℕ → List ℕ → ℕ) (bs : List ℕ) where
-  module _ (i v : ℕ) (s : SoFar f value bs i v) where
-    pub so_far_more :
-        (w : ℕ) → i < length bs → f (get_or bs i 0) ≡ true
-        → ((ds : List ℕ) → value v (get_or bs i 0 ∷ ds) ≡ value w ds) → SoFar f value bs (i + 1) w
-    so_far_more w h pass step =
-        let e = run_more f bs i h pass in
-        record { left = omega (arith, ap length e); comes_to = sym (step _) ∙ sym (ap (value v) e) ∙ s.comes_to }
+module _ (f : ℕ → Bool) (bs : List ℕ) where
+  -- then the run has them all
+  pub run_long : (i : ℕ) → i ≤ length bs → Passing f bs i → i ≤ length (run f bs)
+  run_long i few passes =
+      ⊎_elim
+      (λ lt. let stop = run_behind f bs (omega arith) in
+      let never : true ≡ false = sym (passes (length (run f bs)) lt) ∙ stop in
+      absurd (true≢false never))
+      (λ ge. ge)
+      (cases_lt (length (run f bs)) i)
 
-    -- where the run ends, i is its length and v what it comes to
-    pub so_far_all : run f (drop i bs) ≡ [] → (i ≡ length (run f bs)) × (value v [] ≡ value 0 (run f bs))
-    so_far_all e = (omega (arith, ap length e), sym (ap (value v) e) ∙ s.comes_to)
+-- what the first i letters come to
+module _ (bs : List ℕ) (i v : ℕ) where
+  pub spelled_more :
+      i < length bs → v ≡ spelled (take i bs) → v * 256 + get_or bs i 0 ≡ spelled (take (i + 1) bs)
+  spelled_more h e = ap (λ n. n * 256 + get_or bs i 0) e ∙ sym (number_more 256 bs i h)
 
-    pub so_far_longer : i < length bs → f (get_or bs i 0) ≡ true → i < length (run f bs)
-    so_far_longer h pass = omega (arith, ap length (run_more f bs i h pass), s.left)
+  -- they have room in 8 * i bits
+  pub spelled_room : v < 2 ^ (8 * i) → get_or bs i 0 < 256 → v * 256 + get_or bs i 0 < 2 ^ (8 * (i + 1))
+  spelled_room h low =
+      let e : 2 ^ (8 * (i + 1)) ≡ 2 ^ (8 * i) * 256 = ap (λ k. 2 ^ k) (omega arith) ∙ pow-add 2 (8 * i) 8 in
+      omega arith
 
-abbrev pub spelled_after : ℕ → List ℕ → ℕ
-spelled_after = number_from_digits_after 256
+  pub decimal_more :
+      i < length bs → v ≡ decimal (take i bs) → v * 10 + digit (get_or bs i 0) ≡ decimal (take (i + 1) bs)
+  decimal_more h e =
+      ap (λ n. n * 10 + digit (get_or bs i 0)) e
+      ∙ sym (ap (number_from_digits 10) (map_more digit bs i 0 h)
+      ∙ number_push 10 (map digit (take i bs)) (digit (get_or bs i 0)))
 
-abbrev pub decimal_after : ℕ → List ℕ → ℕ
-decimal_after v ds = number_from_digits_after 10 v (map digit ds)
+-- what more digits come to is no less
+pub decimal_front : (n : ℕ) (ds : List ℕ) → decimal (take n ds) ≤ decimal ds
+decimal_front n ds =
+    let front = map digit (take n ds) in
+    let back = map digit (drop n ds) in
+    let e = sym (ap decimal (take-append-drop n ds)) ∙ ap (number_from_digits 10) (map-append digit (take n ds) (drop n ds))
+    ∙ number_after_append 10 0 front back in
+    omega (arith, e, number_after_ge 10 (number_from_digits 10 front) back (omega arith))
 
--- i letters have room in 8 bytes
-room : (i v b : ℕ) → v < 2 ^ (8 * i) → b < 256 → v * 256 + b < 2 ^ (8 * (i + 1))
-room i v b h low =
-    let e : 2 ^ (8 * (i + 1)) ≡ 2 ^ (8 * i) * 256 = ap (λ k. 2 ^ k) (omega arith) ∙ pow-add 2 (8 * i) 8 in
-    omega arith
-
-pub record WordSoFar (bs : List ℕ) (i v : ℕ) : Type 0 where
-  pub so_far : SoFar is_letter spelled_after bs i v
-  pub few : i ≤ 8
-  pub small : v < 2 ^ (8 * i)
-
-module _ (bs : List ℕ) where
-  module _ (i v : ℕ) (s : WordSoFar bs i v) where
-    pub word_more :
-        i < length bs → is_letter (get_or bs i 0) ≡ true → i < 8 → get_or bs i 0 < 256
-        → WordSoFar bs (i + 1) (v * 256 + get_or bs i 0)
-    word_more h pass short low = record {
-      so_far = so_far_more is_letter spelled_after bs i v s.so_far (v * 256 + get_or bs i 0) h pass (λ ds. refl);
-      few = omega arith;
-      small = room i v (get_or bs i 0) s.small low;
-    }
-
-    pub word_fits : (b : ℕ) → i < 8 → b < 256 → v * 256 + b < 2 ^ 64
-    word_fits b short low =
-        let top : 2 ^ (8 * (i + 1)) ≤ 2 ^ 64 = pow_mono {i = 8 * (i + 1)} {j = 64} (omega arith) in
-        omega (arith, room i v b s.small low)
-
-    pub word_long :
-        (p : ℕ) → i < length bs → is_letter (get_or bs i 0) ≡ true → 8 ≤ i
-        → Err (LongWord p 0) ≡ word p (run is_letter bs)
-    word_long p h pass long =
-        word_err p (run is_letter bs) (omega (arith, so_far_longer is_letter spelled_after bs i v s.so_far h pass))
-
-    pub word_done : (p : ℕ) → run is_letter (drop i bs) ≡ [] → Ok (token 1 p i v) ≡ word p (run is_letter bs)
-    word_done p e =
-        let all = so_far_all is_letter spelled_after bs i v s.so_far e in
-        ap₂ (λ n w. Ok (token 1 p n w)) all.0 all.1
-        ∙ word_ok p (run is_letter bs) (omega (arith, s.few, all.0))
-
-pub record NumeralSoFar (bs : List ℕ) (i v : ℕ) : Type 0 where
-  pub so_far : SoFar is_digit decimal_after bs i v
-  pub small : v ≤ 4294967295
-
-module _ (bs : List ℕ) where
-  module _ (i v : ℕ) (s : NumeralSoFar bs i v) (h : i < length bs) (pass : is_digit (get_or bs i 0) ≡ true) where
-    next : SoFar is_digit decimal_after bs (i + 1) (v * 10 + digit (get_or bs i 0))
-    next = so_far_more is_digit decimal_after bs i v s.so_far (v * 10 + digit (get_or bs i 0)) h pass (λ ds. refl)
-
-    pub numeral_more :
-        v * 10 + digit (get_or bs i 0) ≤ 4294967295 → NumeralSoFar bs (i + 1) (v * 10 + digit (get_or bs i 0))
-    numeral_more low = record { so_far = next; small = low }
-
-    -- what more digits come to is no less
-    pub numeral_large :
-        (p : ℕ) → 4294967295 < v * 10 + digit (get_or bs i 0) → Err (LargeNumber p 0) ≡ numeral p (run is_digit bs)
-    numeral_large p large =
-        let rest = map digit (run is_digit (drop (i + 1) bs)) in
-        let more = number_after_ge 10 (v * 10 + digit (get_or bs i 0)) rest (omega arith) in
-        numeral_err p (run is_digit bs) (omega (arith, more, next.comes_to))
+-- the item, where the first i bytes pass and the next one, if any, does not
+module _ (bs : List ℕ) (i v p : ℕ) (few : i ≤ length bs) where
+  pub word_done :
+      Passing is_letter bs i → (i < length bs → is_letter (get_or bs i 0) ≡ false) → i ≤ 8 → v ≡ spelled (take i bs)
+      → Ok (token 1 p i v) ≡ word p (run is_letter bs)
+  word_done passes stops short e =
+      let all = run_is is_letter bs i few passes stops in
+      let n = length-take-le i bs few in
+      ap₂ (λ k w. Ok (token 1 p k w)) (sym n) e ∙ word_ok p (take i bs) (omega arith) ∙ ap (word p) (sym all)
 
   pub numeral_done :
-      (i v : ℕ) (s : NumeralSoFar bs i v) (p : ℕ) → run is_digit (drop i bs) ≡ []
-      → Ok (token 2 p i v) ≡ numeral p (run is_digit bs)
-  numeral_done i v s p e =
-      let all = so_far_all is_digit decimal_after bs i v s.so_far e in
-      ap₂ (λ n w. Ok (token 2 p n w)) all.0 all.1
-      ∙ numeral_ok p (run is_digit bs) (omega (arith, s.small, all.1))
+      Passing is_digit bs i → (i < length bs → is_digit (get_or bs i 0) ≡ false) → v ≤ 4294967295
+      → v ≡ decimal (take i bs) → Ok (token 2 p i v) ≡ numeral p (run is_digit bs)
+  numeral_done passes stops small e =
+      let all = run_is is_digit bs i few passes stops in
+      let n = length-take-le i bs few in
+      ap₂ (λ k w. Ok (token 2 p k w)) (sym n) e ∙ numeral_ok p (take i bs) (omega arith) ∙ ap (numeral p) (sym all)
+
+  pub word_long : Passing is_letter bs i → 8 < i → Err (LongWord p 0) ≡ word p (run is_letter bs)
+  word_long passes long = word_err p (run is_letter bs) (omega (arith, run_long is_letter bs i few passes))
+
+  pub numeral_large :
+      Passing is_digit bs i → v ≡ decimal (take i bs) → 4294967295 < v
+      → Err (LargeNumber p 0) ≡ numeral p (run is_digit bs)
+  numeral_large passes e large =
+      let n = length (run is_digit bs) in
+      let whole = run_front is_digit bs n refl in
+      let front = take-take i n bs (run_long is_digit bs i few passes) in
+      let same : take i (run is_digit bs) ≡ take i bs = ap (take i) (sym whole) ∙ front in
+      numeral_err p (run is_digit bs) (omega (arith, e, ap decimal same, decimal_front i (run is_digit bs)))

@@ -28,9 +28,12 @@ same_item plan p =
     ∙ ap (λ b. item p b (drop p plan)) (get_or-drop p plan 0 0 ∙ ap (λ k. get_or plan k 0) (add-zero p))
 
 -- the blanks at place p end before place q
-module _ (plan : List ℕ) (p q : ℕ) (h : q ≡ p + length (run is_blank (drop p plan))) where
+module _ (plan : List ℕ) (p q : ℕ) (h : q ≡ p + length (run is_blank (rest plan p))) where
+  at : q ≡ p + length (run is_blank (drop p plan))
+  at = h ∙ ap (λ bs. p + length (run is_blank bs)) (take_rest plan p)
+
   at_place : (s : Stream) → lexed_from q plan ≡ s → s ≡ lexed_from p plan
-  at_place s there = sym there ∙ behind_blanks plan p q h
+  at_place s there = sym there ∙ behind_blanks plan p q at
 
   pub end_behind : q ≡ length plan → record { tokens = []; ending = end } ≡ lexed_from p plan
   end_behind e = at_place _ (end_there plan q (omega arith))
@@ -39,7 +42,7 @@ module _ (plan : List ℕ) (p q : ℕ) (h : q ≡ p + length (run is_blank (drop
     pub fault_behind :
         (f : SourceFault) → Err f ≡ item q (get_or (rest plan q) 0 0) (rest plan q)
         → record { tokens = []; ending = fault f } ≡ lexed_from p plan
-    fault_behind f i = at_place _ (fault_there plan q lt (no_blank_there plan p q h lt) f (i ∙ same_item plan q))
+    fault_behind f i = at_place _ (fault_there plan q lt (no_blank_there plan p q at lt) f (i ∙ same_item plan q))
 
     module _ (t : Token) (i : Ok t ≡ item q (get_or (rest plan q) 0 0) (rest plan q)) where
       pub token_fits : q + t.length ≤ length plan
@@ -50,7 +53,7 @@ module _ (plan : List ℕ) (p q : ℕ) (h : q ≡ p + length (run is_blank (drop
             tokens = t ∷ (lexed_from (q + t.length) plan).tokens;
             ending = (lexed_from (q + t.length) plan).ending;
           } ≡ lexed_from p plan
-      token_behind = at_place _ (token_there plan q lt (no_blank_there plan p q h lt) t (i ∙ same_item plan q))
+      token_behind = at_place _ (token_there plan q lt (no_blank_there plan p q at lt) t (i ∙ same_item plan q))
 
       pub token_kind : is_kind t.kind ≡ true
       token_kind = answer_kind (lexed_from p plan) t (lexed_kinded p plan) (ap answer token_behind)

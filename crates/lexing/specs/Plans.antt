@@ -1,5 +1,6 @@
 -- The tokens of a plan, from its bytes.
 use Rattle.std.specs.Prelude.{ℕ, zero, suc, pred, ◌+◌, ◌-◌, Bool, cond, ◌&&◌, ◌||◌, List, [], ◌∷◌, map, length, drop, Some, None, Ok, Err, codes, Option, Result, ◌==◌, nat_le}
+use Rattle.std.specs.List.{take_while}
 use Rattle.std.specs.Int.Digits.{number_from_digits}
 use Rattle.syntax.specs.declared.Token.{Token}
 use Rattle.source.specs.declared.SourceFault.{SourceFault}
@@ -39,8 +40,7 @@ mark_kind = index_from 3 (codes "+-*/(),;:=<>{}")
 
 -- the longest front of which every byte passes
 abbrev pub run : (ℕ → Bool) → List ℕ → List ℕ
-run f [] = []
-run f (b ∷ bs) = cond (f b) (b ∷ run f bs) []
+run = take_while
 
 -- the number that letters stand for: their codes in base 256
 abbrev pub spelled : List ℕ → ℕ

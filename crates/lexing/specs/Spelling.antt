@@ -1,11 +1,11 @@
 -- The value of a word that stands alone, and that no other word has it.
-use Rattle.std.specs.Prelude.{◌≡◌, ℕ, Bool, true, cond, ◌&&◌, List, [], ◌∷◌, length, Some, None, Option, nat_le}
+use Rattle.std.specs.Prelude.{◌≡◌, ℕ, Bool, cond, ◌&&◌, List, length, Some, None, Option, nat_le}
+use Rattle.std.specs.List.{list_all}
 use Rattle.lexing.specs.Plans.{longest_word, is_letter, spelled}
 
 -- every byte is a letter
 abbrev pub letters : List ℕ → Bool
-letters [] = true
-letters (b ∷ bs) = is_letter b && letters bs
+letters = list_all is_letter
 
 -- 1 to 8 letters
 abbrev pub is_word : List ℕ → Bool

@@ -40,26 +40,23 @@ impl<S: Source> Source for Limit<S> {
     ghost kinded = { λ s. limited_kinded s.left (S.Source.meaning s.below) (S.Source.kinded s.below) };
 
     fn peek(&mut self) -> Result<Option<Token>, SourceFault> {
-        let Some(token) = self.below.peek()? else {
-            return Ok(None);
-        };
-        if self.left == 0 {
-            return Err(SourceFault::TooManyTokens {
+        match self.below.peek()? {
+            Some(token) if self.left == 0 => Err(SourceFault::TooManyTokens {
                 place: token.place,
                 layer: Self::layer_number(),
-            });
+            }),
+            next => Ok(next),
         }
-        Ok(Some(token))
     }
 
     fn take(&mut self) -> Result<Option<Token>, SourceFault> {
         if self.left == 0 {
             return self.peek();
         }
-        let Some(token) = self.below.take()? else {
-            return Ok(None);
-        };
-        self.left -= 1;
-        Ok(Some(token))
+        let next = self.below.take()?;
+        if next.is_some() {
+            self.left -= 1;
+        }
+        Ok(next)
     }
 }

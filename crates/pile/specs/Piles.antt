@@ -15,6 +15,7 @@ use Rattle.keywords.specs.Listing.{listing}
 use Rattle.limit.specs.declared.Limit.{Limit}
 use Rattle.keywords.specs.Adding as word
 use Rattle.keywords.specs.Adding.{add_answer}
+use Rattle.pile.specs.declared.Plan as given
 use Rattle.pile.specs.declared.PileRefusal.{PileRefusal}
 use Rattle.pile.specs.declared.PileRefusal.TheVariants.{Plan, Word}
 
@@ -30,6 +31,10 @@ place (Word r) = word.place r
 -- the first n tokens of a plan, with the kinds of the keywords; the limit is layer 2
 abbrev pub piled : List ℕ → List Keyword → ℕ → Stream
 piled bytes ws n = limited 2 n (rekinded ws (lexed_from 0 bytes))
+
+-- the stream of a plan that is given with its keywords and its limit
+abbrev pub plan_stream : given.Plan → Stream
+plan_stream p = piled p.text.now p.words.now p.limit
 
 -- what a limit over keywords over a lexer still has to give
 abbrev pub stream_of : Limit (Keywords Lexer) → Stream
@@ -48,8 +53,8 @@ abbrev pub add_all : List Keyword → List Keyword → Added
 add_all ws [] = Ok tt
 add_all ws (w ∷ more) = and_then (add_answer ws w) (add_all (ws ++ (w ∷ [])) more)
 
--- the same, told of a pile
-abbrev pub word_refused : Added → Result (Unit {0}) PileRefusal
+-- the refusal of a keyword, as that of a pile
+abbrev word_refused : Added → Result (Unit {0}) PileRefusal
 word_refused (Ok u) = Ok tt
 word_refused (Err e) = Err (Word e)
 
@@ -60,3 +65,7 @@ plan_refused (Err e) added = Err (Plan e)
 -- what is refused of a plan and its keywords: the plan first, then the first keyword that cannot be listed
 abbrev pub pile_answer : List ℕ → List Keyword → Result (Unit {0}) PileRefusal
 pile_answer bytes ws = plan_refused (plan.open_answer bytes) (add_all [] ws)
+
+-- what is refused of a plan that is given with its keywords and its limit
+abbrev pub plan_answer : given.Plan → Result (Unit {0}) PileRefusal
+plan_answer p = pile_answer p.text.now p.words.now

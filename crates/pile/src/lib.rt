@@ -1,27 +1,43 @@
 //! A plan as a source: the lexer, the keyword layer over it, and the limit layer over that.
 #![tactic(auto)]
 
-ghost use Rattle.std.specs.Prelude.{◌≡◌, ◌++◌, IfOk, Ok as Good};
+ghost use Rattle.std.specs.Prelude.{◌≡◌, ◌++◌, Some, IfOk, MatchResult, Ok as Good, Err as Bad};
+ghost use Rattle.syntax.specs.Told.{number_at_place};
 ghost use Rattle.keywords.specs.Listing.{listing};
 ghost use Rattle.pile.specs.declared.PileRefusal.TheVariants.{Plan, Word};
 ghost use Rattle.pile.specs.Piles.{number as number_of, place as place_of};
-ghost use Rattle.pile.specs.Piles.{stream_of, piled, add_all, word_refused, pile_answer};
+ghost use Rattle.pile.specs.Piles.{stream_of, plan_stream, plan_answer, add_all};
 
 use keywords::{Keyword, KeywordRefusal, Keywords};
 use lexer::{Lexer, PlanRefusal};
 use limit::Limit;
 use source::Source;
+use std::fmt;
 
-/// The tokens of a plan under a limit over keywords, and whether anything of it was refused: then the source is of no
-/// use. A source that borrows the plan cannot be handed out inside a `Result`.
-#[derive(Drop)]
-pub struct Opened<'a> {
-    pub source: Limit<Keywords<Lexer<'a>>>,
-    pub answer: Result<(), PileRefusal>,
+/// The bytes of a plan, what keywords there are in it, and how many of its tokens are read at most.
+#[derive(Clone, Copy)]
+pub struct Plan<'p> {
+    pub text: &'p [u8],
+    pub words: &'p [Keyword],
+    pub limit: u64,
+}
+
+impl<'p> Plan<'p> {
+    /// The tokens of the plan: the lexer is layer 0, the keywords are layer 1, the limit is layer 2.
+    pub fn open(self) -> Result<Limit<Keywords<Lexer<'p>>>, PileRefusal>
+        ensures answer { MatchResult result
+            (λ _. plan_answer self.entry ≡ Good tt)
+            (λ refusal. plan_answer self.entry ≡ Bad refusal) }
+        ensures stream { IfOk result (λ source. stream_of source ≡ plan_stream self.entry) }
+    {
+        let mut keywords = Keywords::new(Lexer::new(self.text)?);
+        add_all(&mut keywords, self.words)?;
+        Ok(Limit::new(keywords, self.limit))
+    }
 }
 
 /// Why a plan is not read at all: it is too long, or a keyword cannot be listed.
-#[derive(Clone, Copy)]
+#[derive(Clone, Copy, PartialEq, Eq, Debug)]
 pub enum PileRefusal {
     Plan(PlanRefusal),
     Word(KeywordRefusal),
@@ -63,6 +79,15 @@ impl PileRefusal {
     }
 }
 
+/// Its number and its place, as in `14 at 0`.
+impl fmt::Display for PileRefusal {
+    ghost output = { λ f. Some (number_at_place (number_of f) (place_of f)) };
+
+    fn fmt<W: fmt::Write>(&self, f: &mut fmt::Formatter<W>) -> fmt::Result {
+        write!(f, "{} at {}", self.number(), self.place())
+    }
+}
+
 /// Lists keywords one by one, up to the first that is refused.
 pub fn add_all<S: Source>(
     keywords: &mut Keywords<S>,
@@ -77,33 +102,4 @@ pub fn add_all<S: Source>(
         keywords.add(*word)?;
     }
     Ok(())
-}
-
-fn list_words<S: Source>(keywords: &mut Keywords<S>, words: &[Keyword]) -> Result<(), PileRefusal>
-    ensures answer { result ≡ word_refused (add_all (listing keywords.old.words) words.now) }
-    ensures listed { IfOk result (λ _.
-        listing keywords.new.words ≡ listing keywords.old.words ++ words.now) }
-    ensures below { keywords.new.below ≡ keywords.old.below }
-{
-    add_all(keywords, words)?;
-    Ok(())
-}
-
-/// Opens a plan: the lexer is layer 0, the keywords are layer 1, the limit is layer 2.
-pub fn open_plan<'a>(plan: &'a [u8], words: &[Keyword], limit: u64) -> Opened<'a>
-    ensures answer { result.answer ≡ pile_answer plan.now words.now }
-    ensures stream { pile_answer plan.now words.now ≡ Good tt →
-        stream_of result.source ≡ piled plan.now words.now limit }
-{
-    let mut lexer = Lexer::empty();
-    let opened = lexer.open(plan);
-    let mut keywords = Keywords::new(lexer);
-    let answer = match opened {
-        Ok(()) => list_words(&mut keywords, words),
-        Err(refusal) => Err(PileRefusal::Plan(refusal)),
-    };
-    Opened {
-        source: Limit::new(keywords, limit),
-        answer,
-    }
 }

@@ -1,7 +1,6 @@
 -- A plan that was read into totals.
-use Rattle.std.proofs.Common.{◌≡◌, ℕ, ◌-◌, List, [], ◌∷◌, length, take, Ok, Err, Result, refl, ap, ◌∙◌, subst, arith}
+use Rattle.std.proofs.Common.{◌≡◌, ◌-◌, List, [], ◌∷◌, length, take, Ok, Err, Result, refl, ap, ◌∙◌, subst, arith}
 use Rattle.table.specs.declared.Table as tables
-use Rattle.streams.specs.declared.Keyword.{Keyword}
 use Rattle.sink.specs.declared.Sink as sinks
 use Rattle.sink.specs.Stacks.{endless, limited}
 use Rattle.measure.specs.declared.Measure as measures
@@ -14,7 +13,8 @@ use Rattle.outcome.specs.declared.Call.{Call}
 use Rattle.machine.specs.Calls.{report as told}
 use Rattle.machine.specs.Runs.{Run, after}
 use Rattle.pile.specs.declared.PileRefusal.{PileRefusal}
-use Rattle.pile.specs.Piles.{piled}
+use Rattle.pile.specs.declared.Plan.{Plan}
+use Rattle.pile.specs.Piles.{plan_stream}
 use Rattle.reading.specs.Promises.{Kept as Promise}
 use Rattle.plans.specs.declared.PlanRead.{PlanRead}
 use Rattle.plans.specs.Plans.{plan_run, ReadBy, comes_of}
@@ -34,33 +34,33 @@ module _ {T V : Type 0} (table : tables.Ghosts T) (m : measures.Ghosts V)
     onward = kept_more;
   }
 
-  module _ (t : T) (plan : List ℕ) (words : List Keyword) (limit : ℕ) (k : Totals V) (calls : List Call)
+  module _ (t : T) (plan : Plan) (k : Totals V) (calls : List Call)
       (fresh : k.used ≡ 0) where
     abbrev run : Run V
-    run = totals_run m (table.meaning t) plan words limit (length (places k)) calls
+    run = totals_run m (table.meaning t) plan (length (places k)) calls
 
     -- new totals have no list, and all places are free
-    run_is : plan_run table stacking t plan words limit k calls ≡ run
+    run_is : plan_run table stacking t plan k calls ≡ run
     run_is =
         let free : length (places k) - k.used ≡ length (places k) = omega arith in
         λ i. record {
           table = table.meaning t;
-          stream = piled plan words limit;
+          stream = plan_stream plan;
           stack = record { list = take (fresh i) (places k); records = endless; cells = limited (free i) };
           calls = calls;
         }
 
     module _ (r : PlanRead (Totals V)) (new : List V) (begins : Begins new (meaning r.sink).list) where
       -- the list of the machine
-      list_at_front : ReadBy table stacking t plan words limit k calls r →
+      list_at_front : ReadBy table stacking t plan k calls r →
           Begins new (after (joining m) run).stack.list
       list_at_front read =
           subst (λ l. Begins new l)
           (ap (λ s. s.list) read.stack_is ∙ ap (λ x. (after (joining m) x).stack.list) run_is) begins
 
       -- accepted, it is the total of the one tree, whatever its bracketing
-      total_at_front : ReadBy table stacking t plan words limit k calls r → Promise (joining m) run →
-          (after (joining m) run).outcome ≡ Accepted → Begins new (over_leaves m (piled plan words limit).tokens ∷ [])
+      total_at_front : ReadBy table stacking t plan k calls r → Promise (joining m) run →
+          (after (joining m) run).outcome ≡ Accepted → Begins new (over_leaves m (plan_stream plan).tokens ∷ [])
       total_at_front read kept accepted =
           let whole = kept.promised.accepts_trees accepted in
           let total =
@@ -68,9 +68,9 @@ module _ {T V : Type 0} (table : tables.Ghosts T) (m : measures.Ghosts V)
           subst (λ l. Begins new l) (whole.list_is ∙ ap (λ v. v ∷ []) total) (list_at_front read)
 
       pub measured : (p : Result (Unit {0}) PileRefusal) → new ≡ places r.sink →
-          comes_of table stacking t plan words limit k calls p r →
-          (p ≡ Ok tt → Promise (joining m) (plan_run table stacking t plan words limit k calls)) →
-          measures_as m (table.meaning t) plan words limit p (places k) calls r.answer new
+          comes_of table stacking t plan k calls p r →
+          (p ≡ Ok tt → Promise (joining m) (plan_run table stacking t plan k calls)) →
+          measures_as m (table.meaning t) plan p (places k) calls r.answer new
       measured (Ok u) same read promise = record {
         told_is = read.told_is ∙ ap (λ x. Ok (told (after (joining m) x))) run_is;
         list_is = list_at_front read;

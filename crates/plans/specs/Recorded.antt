@@ -3,7 +3,6 @@ use Rattle.std.specs.Prelude.{◌≡◌, ℕ, List, [], ◌∷◌, Ok, Err, Resu
 use Rattle.syntax.specs.Trees.{Tree, TreeOf, size}
 use Rattle.syntax.specs.Values.{read}
 use Rattle.table.specs.Automaton.{Automaton}
-use Rattle.streams.specs.declared.Keyword.{Keyword}
 use Rattle.trace.specs.Records.{postfix}
 use Rattle.trace.specs.Grown.{overlaid}
 use Rattle.replay.specs.Recorded.{blank}
@@ -13,14 +12,15 @@ use Rattle.outcome.specs.declared.Report.{Report}
 use Rattle.machine.specs.Calls.{report as told}
 use Rattle.machine.specs.Runs.{Run, after}
 use Rattle.pile.specs.declared.PileRefusal.{PileRefusal}
-use Rattle.pile.specs.Piles.{piled, pile_answer}
+use Rattle.pile.specs.declared.Plan.{Plan}
+use Rattle.pile.specs.Piles.{plan_stream, plan_answer}
 
-module _ (M : Automaton) (plan : List ℕ) (words : List Keyword) (limit : ℕ) where
+module _ (M : Automaton) (plan : Plan) where
   -- the run of the calls on the tokens of the plan, into a new trace in these bytes under a quota
   abbrev pub trace_run : ℕ → List ℕ → List Call → Run (List ℕ)
   trace_run quota bytes calls = record {
     table = M;
-    stream = piled plan words limit;
+    stream = plan_stream plan;
     stack = blank quota bytes;
     calls = calls;
   }
@@ -34,12 +34,12 @@ module _ (M : Automaton) (plan : List ℕ) (words : List Keyword) (limit : ℕ) 
 
   -- the machine's report, and the records of the machine's list laid over the bytes; or a refusal, and no byte changed
   abbrev pub Traces : ℕ → List ℕ → List Call → Result Report PileRefusal → List ℕ → Type 0
-  Traces = traces_as (pile_answer plan words)
+  Traces = traces_as (plan_answer plan)
 
   -- the bytes begin with the records of one tree of the plan, of so many leaves and nodes; behind them nothing changed
   pub record TreeRecorded (old : List ℕ) (steps : ℕ) (new : List ℕ) : Type 0 where
     pub tree : Tree
-    pub of_plan : TreeOf M.grammar (piled plan words limit).tokens tree
+    pub of_plan : TreeOf M.grammar (plan_stream plan).tokens tree
     pub records_are : new ≡ overlaid old (read postfix tree ∷ [])
     pub steps_are : steps ≡ size tree
 

@@ -2,14 +2,13 @@
 #![tactic(auto)]
 
 ghost use Rattle.std.specs.Prelude.{◌≡◌, Ok as Good};
-ghost use Rattle.pile.specs.Piles.{pile_answer};
+ghost use Rattle.pile.specs.Piles.{plan_answer};
 ghost use Rattle.reading.specs.Promises.{Kept, Checked};
 ghost use Rattle.plans.specs.Plans.{plan_run, Comes};
 
-use drive::{Driven, drive, drive_checked};
-use keywords::Keyword;
+use drive::drive;
 use outcome::{Call, Report};
-use pile::{PileRefusal, open_plan};
+use pile::{PileRefusal, Plan};
 use sink::Sink;
 use table::{CheckedTable, Table};
 
@@ -29,55 +28,41 @@ pub struct PlanRead<K> {
 /// Reads a plan by any table. A plan or a keyword that is refused leaves the sink as it was.
 pub fn read_plan<T: Table + Drop, K: Sink>(
     table: T,
-    plan: &[u8],
-    words: &[Keyword],
-    limit: u64,
+    plan: Plan<'_>,
     sink: K,
     calls: &[Call],
 ) -> PlanRead<K>
-    ensures comes { Comes T.Table K.Sink table plan.now words.now limit sink calls.now result }
-    ensures promise { pile_answer plan.now words.now ≡ Good tt →
-        Kept K.Sink.algebra
-        (plan_run T.Table K.Sink table plan.now words.now limit sink calls.now) }
+    ensures comes { Comes T.Table K.Sink table plan.entry sink calls.now result }
+    ensures promise { plan_answer plan.entry ≡ Good tt →
+        Kept K.Sink.algebra (plan_run T.Table K.Sink table plan.entry sink calls.now) }
 {
-    let opened = open_plan(plan, words, limit);
-    if let Err(refusal) = opened.answer {
-        return PlanRead {
+    match plan.open() {
+        Ok(source) => {
+            let driven = drive(table, source, sink, calls);
+            PlanRead {
+                answer: Ok(driven.report),
+                sink: driven.sink,
+            }
+        }
+        Err(refusal) => PlanRead {
             answer: Err(refusal),
             sink,
-        };
-    }
-    let driven = drive(table, opened.source, sink, calls);
-    PlanRead {
-        answer: Ok(driven.report),
-        sink: driven.sink,
+        },
     }
 }
 
 /// The same by a table that was checked: all that is promised of valid tables holds of the run.
 pub fn read_plan_checked<T: CheckedTable + Drop, K: Sink>(
     table: T,
-    plan: &[u8],
-    words: &[Keyword],
-    limit: u64,
+    plan: Plan<'_>,
     sink: K,
     calls: &[Call],
 ) -> PlanRead<K>
-    ensures comes { Comes T.Table K.Sink table plan.now words.now limit sink calls.now result }
-    ensures promise { pile_answer plan.now words.now ≡ Good tt →
-        Checked K.Sink.algebra
-        (plan_run T.Table K.Sink table plan.now words.now limit sink calls.now) }
+    ensures comes { Comes T.Table K.Sink table plan.entry sink calls.now result }
+    ensures promise { plan_answer plan.entry ≡ Good tt →
+        Checked K.Sink.algebra (plan_run T.Table K.Sink table plan.entry sink calls.now) }
 {
-    let opened = open_plan(plan, words, limit);
-    if let Err(refusal) = opened.answer {
-        return PlanRead {
-            answer: Err(refusal),
-            sink,
-        };
-    }
-    let driven = drive_checked(table, opened.source, sink, calls);
-    PlanRead {
-        answer: Ok(driven.report),
-        sink: driven.sink,
-    }
+    // A mark changes nothing, so it may be made as a report is.
+    table.validity();
+    read_plan(table, plan, sink, calls)
 }

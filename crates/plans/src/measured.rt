@@ -3,10 +3,9 @@ ghost use Rattle.std.specs.Prelude.{◌≡◌};
 ghost use Rattle.plans.specs.Measured.{Measures};
 
 use crate::read_plan;
-use keywords::Keyword;
 use measure::Measure;
 use outcome::{Call, Report};
-use pile::PileRefusal;
+use pile::{PileRefusal, Plan};
 use table::Table;
 use totals::Totals;
 
@@ -14,15 +13,13 @@ use totals::Totals;
 /// over the tokens of the plan.
 pub fn measure_plan<'a, T: Table + Drop, M: Measure + Copy + Drop>(
     table: T,
-    plan: &[u8],
-    words: &[Keyword],
-    limit: u64,
+    plan: Plan<'_>,
     places: &'a mut [M],
     calls: &[Call],
 ) -> (Result<Report, PileRefusal>, &'a mut [M])
-    ensures comes { Measures M.Measure (T.Table.meaning table) plan.now words.now limit
+    ensures comes { Measures M.Measure (T.Table.meaning table) plan.entry
         places.old calls.now result.0 result.1.now }
 {
-    let read = read_plan(table, plan, words, limit, Totals::new(places), calls);
+    let read = read_plan(table, plan, Totals::new(places), calls);
     (read.answer, read.sink.finish())
 }

@@ -1,4 +1,1 @@
 pub mod Kinding
-pub mod Passing
-pub mod Listing
-pub mod Rekinding

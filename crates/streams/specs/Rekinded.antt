@@ -1,5 +1,6 @@
 -- What a stream means once its listed words have their listed kinds.
-use Rattle.std.specs.Prelude.{ℕ, Bool, true, false, cond, ◌&&◌, ◌||◌, List, [], ◌∷◌, map, ◌==◌}
+use Rattle.std.specs.Prelude.{ℕ, Bool, cond, List, map, find, option_map, unwrap_or, ◌==◌}
+use Rattle.std.specs.List.{list_any, list_all}
 use Rattle.syntax.specs.declared.Token.{Token}
 use Rattle.source.specs.Streams.{Stream}
 use Rattle.streams.specs.declared.Keyword.{Keyword}
@@ -11,8 +12,7 @@ word = 1
 
 -- the kind that words of value v have
 abbrev pub kind_of : List Keyword → ℕ → ℕ
-kind_of [] v = word
-kind_of (w ∷ ws) v = cond (w.spelling == v) w.kind (kind_of ws v)
+kind_of ws v = unwrap_or (option_map (λ w. w.kind) (find (λ w. w.spelling == v) ws)) word
 
 -- a token with the kind that it has among these keywords
 abbrev pub rekind : List Keyword → Token → Token
@@ -29,10 +29,8 @@ rekinded ws s = record { tokens = map (rekind ws) s.tokens; ending = s.ending }
 
 -- some keyword has the spelling v
 abbrev pub is_listed : List Keyword → ℕ → Bool
-is_listed [] v = false
-is_listed (w ∷ ws) v = w.spelling == v || is_listed ws v
+is_listed ws v = list_any (λ w. w.spelling == v) ws
 
 -- every listed kind is 1 to 31
 abbrev pub all_kinds : List Keyword → Bool
-all_kinds [] = true
-all_kinds (w ∷ ws) = is_kind w.kind && all_kinds ws
+all_kinds = list_all (λ w. is_kind w.kind)

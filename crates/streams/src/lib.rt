@@ -5,7 +5,7 @@ ghost use Rattle.std.specs.Prelude.{◌≡◌};
 ghost use Rattle.streams.specs.Listed.{is_kind};
 
 /// A spelling, as the value of its words, and the kind that those words get.
-#[derive(Clone, Copy, PartialEq, Eq, Debug)]
+#[derive(Clone, Copy, PartialEq, Eq, Debug, Default)]
 pub struct Keyword {
     pub spelling: u64,
     pub kind: u8,
@@ -15,5 +15,5 @@ pub struct Keyword {
 pub fn is_kind(kind: u8) -> bool
     ensures { result ≡ is_kind kind }
 {
-    1 <= kind && kind <= 31
+    (1..=31).contains(&kind)
 }

@@ -1,47 +1,53 @@
-use Rattle.std.proofs.Common.{◌<◌, get_or, Ok, sym, ap, ◌∙◌, arith}
+use Rattle.std.proofs.Common.{◌≡◌, ◌+◌, ◌*◌, ◌^◌, ◌<◌, ◌≤◌, length, get_or, Ok, sym, ap, ◌∙◌, arith, below_more, pow_mono}
 use Rattle.lexing.specs.Plans.{is_letter, token}
-use Rattle.lexing.proofs.Runs.{run_stops, run_ends, word_more, word_fits, word_long, word_done}
+use Rattle.lexing.proofs.Runs.{Passing, spelled_more, spelled_room, word_done, word_long}
 use Rattle.lexer.proofs.scan.word.Goals as goal
-use Rattle.lexer.proofs.scan.word.Goals.{Else-length-eq8}
+use Rattle.lexer.proofs.scan.word.Goals.{Else-not-is_ascii_lowercase}
 
-few : (c : goal.Else-length-eq8) → c.loop-byte.byte-index < 8
-few c = omega (arith, c.loop-byte.invariant.0.few, c.loop-byte.invariant.1, c.if-length-eq8.false)
-
-low : (c : goal.Else-length-eq8) → get_or c.args.rest.now c.loop-byte.byte-index 0 < 256
-low c = omega (arith, c.type_inv.rest c.loop-byte.byte-index)
-
-pub returns-then-length-eq8 : goal.returns-then-length-eq8
-returns-then-length-eq8 c =
-    let pass = sym c.is_ascii_lowercase.ensures.value ∙ c.if-not-is_ascii_lowercase.false in
-    word_long _ _ _ c.loop-byte.invariant.0 c.args.place c.loop-byte-test.true pass
-    (omega (arith, c.loop-byte.invariant.1, c.if-length-eq8.true))
-
-pub overflow_mul-value : goal.overflow_mul-value
-overflow_mul-value c = omega (arith, word_fits _ _ _ c.loop-byte.invariant.0 0 (few c) (omega arith))
-
-pub overflow_add-value : goal.overflow_add-value
-overflow_add-value c =
-    let at = (goal.at.overflow_add-value c).Else-length-eq8 in
-    let byte = get_or c.args.rest.now c.loop-byte.byte-index 0 in
-    omega (arith, word_fits _ _ _ c.loop-byte.invariant.0 byte (few at) (low at))
-
-pub loop-byte-preserved : goal.loop-byte-preserved
-loop-byte-preserved c =
-    let pass = sym c.is_ascii_lowercase.ensures.value ∙ c.if-not-is_ascii_lowercase.false in
-    let at = (goal.at.loop-byte-preserved c).Else-length-eq8 in (
-      word_more _ _ _ c.loop-byte.invariant.0 c.loop-byte-test.true pass (few at) (low at),
-      omega (arith, c.loop-byte.invariant.1),
-    )
-
-pub returns-after-loop-byte : goal.returns-after-loop-byte
-returns-after-loop-byte c =
-    let end = run_ends is_letter c.args.rest.now c.loop-byte.byte-index c.loop-byte-test.false in
-    ap (λ n. Ok (token 1 c.args.place n c.loop-byte.value)) c.loop-byte.invariant.1
-    ∙ word_done _ _ _ c.loop-byte.invariant.0 c.args.place end
+-- with the letter at hand, one more byte passes
+passes : (c : Else-not-is_ascii_lowercase) → Passing is_letter c.args.rest.now (c.loop-length.length + 1)
+passes c =
+    below_more _ _ c.loop-length.invariant.passes
+    (sym c.is_ascii_lowercase.ensures.value ∙ c.if-not-is_ascii_lowercase.false)
 
 pub returns-then-not-is_ascii_lowercase : goal.returns-then-not-is_ascii_lowercase
 returns-then-not-is_ascii_lowercase c =
+    let l = c.loop-length in
     let stop = sym c.is_ascii_lowercase.ensures.value ∙ c.if-not-is_ascii_lowercase.true in
-    let end = run_stops is_letter c.args.rest.now c.loop-byte.byte-index c.loop-byte-test.true stop in
-    ap (λ n. Ok (token 1 c.args.place n c.loop-byte.value)) c.loop-byte.invariant.1
-    ∙ word_done _ _ _ c.loop-byte.invariant.0 c.args.place end
+    ap Ok c.token.ensures
+    ∙ word_done c.args.rest.now l.length l.value c.args.place (omega arith) l.invariant.passes (λ _. stop)
+    l.invariant.few l.invariant.comes_to
+
+pub returns-then-length-eq8 : goal.returns-then-length-eq8
+returns-then-length-eq8 c =
+    let l = c.loop-length in
+    word_long c.args.rest.now (l.length + 1) l.value c.args.place (omega arith)
+    (passes (goal.at.returns-then-length-eq8 c).Else-not-is_ascii_lowercase) (omega arith)
+
+pub overflow_add-value : goal.overflow_add-value
+overflow_add-value c =
+    let l = c.loop-length in
+    let i = l.length in
+    let low : get_or c.args.rest.now i 0 < 256 = omega (arith, c.type_inv.rest i) in
+    let room = spelled_room c.args.rest.now i l.value l.invariant.small low in
+    let top : 2 ^ (8 * (i + 1)) ≤ 2 ^ 64 = pow_mono {i = 8 * (i + 1)} {j = 64} (omega arith) in
+    omega (arith, c.from.ensures)
+
+pub loop-length-preserved : goal.loop-length-preserved
+loop-length-preserved c =
+    let l = c.loop-length in
+    let low : get_or c.args.rest.now l.length 0 < 256 = omega (arith, c.type_inv.rest l.length) in
+    rw c.from.ensures record {
+      passes = passes (goal.at.loop-length-preserved c).Else-not-is_ascii_lowercase;
+      comes_to = spelled_more c.args.rest.now l.length l.value c.loop-length-test.true l.invariant.comes_to;
+      few = omega arith;
+      small = spelled_room c.args.rest.now l.length l.value l.invariant.small low;
+    }
+
+pub returns : goal.returns
+returns c =
+    let l = c.loop-length in
+    let all : length c.args.rest.now ≡ l.length = omega arith in
+    ap Ok c.token-2.ensures ∙ ap (λ n. Ok (token 1 c.args.place n l.value)) all
+    ∙ word_done c.args.rest.now l.length l.value c.args.place (omega arith) l.invariant.passes
+    (λ lt. absurd (omega arith)) l.invariant.few l.invariant.comes_to
