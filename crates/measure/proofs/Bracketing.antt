@@ -1,6 +1,7 @@
 -- A tree's total is the join over its leaves, from the laws of a measure.
 use Rattle.std.proofs.Common.{◌≡◌, List, [], ◌∷◌, ◌++◌, map, sym, refl, ap, ◌∙◌}
 use Rattle.std.proofs.lemmas.List.{map-append}
+use Rattle.syntax.specs.declared.Token.{Token}
 use Rattle.syntax.specs.Trees.{leaf, node, Forest, no_tree, tree_then, text, texts}
 use Rattle.syntax.specs.Values.{reads}
 use Rattle.measure.specs.declared.Measure as measures
@@ -12,6 +13,17 @@ module _ {M : Type 0} (m : measures.Ghosts M)
   joined_append : (xs ys : List M) → joined m (xs ++ ys) ≡ m.join (joined m xs) (joined m ys)
   joined_append [] ys = sym (unit_left (joined m ys))
   joined_append (x ∷ xs) ys = ap (m.join x) (joined_append xs ys) ∙ sym (associative x (joined m xs) (joined m ys))
+
+  -- one more at the end of a row
+  pub joined_push : (xs : List M) (x sum new : M) → sum ≡ joined m xs → new ≡ m.join sum x → new ≡ joined m (xs ++ (x ∷ []))
+  joined_push xs x sum new so more =
+      more ∙ (λ i. m.join (so i) (sym (unit_right x) i)) ∙ sym (joined_append xs (x ∷ []))
+
+  -- and of a text
+  pub leaves_push : (ts : List Token) (t : Token) (sum new : M) → sum ≡ over_leaves m ts → new ≡ m.join sum (m.of t) →
+      new ≡ over_leaves m (ts ++ (t ∷ []))
+  leaves_push ts t sum new so more =
+      joined_push (map m.of ts) (m.of t) sum new so more ∙ ap (joined m) (sym (map-append m.of ts (t ∷ [])))
 
   mutual
     pub brackets : Bracketing m

@@ -1,5 +1,5 @@
 -- Spans: from the smallest place of some tokens to the largest place behind one.
-use Rattle.std.specs.Prelude.{ℕ, ◌+◌, min, max, cond, ◌==◌}
+use Rattle.std.specs.Prelude.{ℕ, ◌+◌, List, ◌++◌, codes, decimal, min, max, cond, ◌==◌}
 use Rattle.syntax.specs.declared.Token.{Token}
 use Rattle.measure.specs.declared.spans.Span.{Span}
 
@@ -26,3 +26,7 @@ earlier x y = cond (x == last_place) y (cond (y == last_place) x (min x y))
 -- the span around two
 abbrev pub hull : Span → Span → Span
 hull x y = span (earlier x.start y.start) (max x.end y.end)
+
+-- as it is printed: its first place and the place behind its last
+abbrev pub words : Span → List ℕ
+words s = decimal s.start ++ codes " " ++ decimal s.end

@@ -3,7 +3,7 @@ ghost use Rattle.measure.specs.Minutes.{largest, added, minutes};
 ghost use Rattle.std.proofs.Common.{rules};
 
 use crate::Measure;
-use syntax::Token;
+use syntax::{NUMBER, Token};
 
 /// The minutes of a plan: its numbers, added up as far as 64 bits go.
 impl Measure for u64 {
@@ -31,6 +31,6 @@ impl Measure for u64 {
     }
 
     fn of(token: Token) -> u64 {
-        if token.kind == 2 { token.value } else { 0 }
+        if token.kind == NUMBER { token.value } else { 0 }
     }
 }

@@ -8,11 +8,7 @@ use syntax::Token;
 pub fn join_all<M: Measure + Copy>(row: &[M]) -> M
     ensures { result ≡ joined M.Measure row.now }
 {
-    let mut sum = M::unit();
-    for x in row {
-        sum = sum.join(*x);
-    }
-    sum
+    row.iter().fold(M::unit(), |sum, x| sum.join(*x))
 }
 
 /// The join over the tokens of a text: the total of every tree of it, whatever its bracketing.
@@ -20,9 +16,7 @@ pub fn over_leaves<M: Measure>(tokens: &[Token]) -> M
     ensures value { result ≡ over_leaves M.Measure tokens.now }
     ensures bracketing { Bracketing M.Measure }
 {
-    let mut sum = M::unit();
-    for token in tokens {
-        sum = sum.join(M::of(*token));
-    }
-    sum
+    tokens
+        .iter()
+        .fold(M::unit(), |sum, token| sum.join(M::of(*token)))
 }

@@ -1,8 +1,9 @@
-ghost use Rattle.std.specs.Prelude.{◌≡◌, min, max};
-ghost use Rattle.measure.specs.Spans.{nowhere, hull, span, of_token};
+ghost use Rattle.std.specs.Prelude.{◌≡◌, Some, min, max};
+ghost use Rattle.measure.specs.Spans.{nowhere, hull, span, of_token, words};
 ghost use Rattle.std.proofs.Common.{rules};
 
 use crate::Measure;
+use std::fmt;
 use syntax::Token;
 
 /// A stretch of a plan, from its first place to the place behind its last. That may need 33 bits.
@@ -10,6 +11,15 @@ use syntax::Token;
 pub struct Span {
     pub start: u32,
     pub end: u64,
+}
+
+/// Its first place and the place behind its last, as in `0 6`.
+impl fmt::Display for Span {
+    ghost output = { λ s. Some (words s) };
+
+    fn fmt<W: fmt::Write>(&self, f: &mut fmt::Formatter<W>) -> fmt::Result {
+        write!(f, "{} {}", self.start, self.end)
+    }
 }
 
 /// The stretch that tokens cover together.

@@ -26,7 +26,7 @@ impl<K: Sink> Quota<K> {
     pub fn finish(self) -> K
         ensures { result ≡ self.below }
     {
-        let Quota { left: _, below } = self;
+        let Quota { below, .. } = self;
         below
     }
 }
@@ -59,6 +59,7 @@ impl<K: Sink> Sink for Quota<K> {
         Ok(())
     }
 
+    // The two tests stand in each sink, in this order: as a call they would be no plainer, since what is full is its own.
     fn node(&mut self, production: u8, children: u8) -> Result<(), SinkFault> {
         let trees = self.below.trees();
         if trees < u64::from(children) {

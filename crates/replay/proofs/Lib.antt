@@ -1,3 +1,2 @@
 pub mod Recording
 pub mod Records
-pub mod Sending

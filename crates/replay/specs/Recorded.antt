@@ -4,7 +4,7 @@ use Rattle.std.specs.Borrow.{MutBor}
 use Rattle.sink.specs.Stacks.{Stack, endless, limited}
 use Rattle.quota.specs.Capped.{capped}
 use Rattle.trace.specs.Records.{leaf_record, node_record, postfix, places}
-use Rattle.trace.specs.Meaning.{meaning}
+use Rattle.trace.specs.Meaning.{fresh as empty, meaning}
 use Rattle.trace.specs.Grown.{overlaid}
 use Rattle.replay.specs.declared.Event.{Event}
 use Rattle.replay.specs.declared.Event.TheVariants.{Leaf, Node}
@@ -13,7 +13,7 @@ use Rattle.replay.specs.Events.{Answer, sent_all, taken}
 
 -- a new recorder over some bytes
 abbrev pub fresh : ℕ → MutBor (List ℕ) → Recorder
-fresh limit bytes = record { sink = record { left = limit; below = record { bytes = bytes; records = 0; trees = 0 } } }
+fresh limit bytes = record { sink = record { left = limit; below = empty bytes } }
 
 -- the list of its trace, with no more records than its quota leaves
 abbrev pub recording : Recorder → Stack (List ℕ)

@@ -42,8 +42,10 @@ fn a_span_over_two_tokens_goes_from_the_first_place_to_the_last_end(rt: HostRunt
 
 #[test]
 fn a_span_may_end_beyond_32_bits_and_that_of_no_token_is_the_unit(rt: HostRuntime) {
-    let mut far = ON;
-    far.place = u32::MAX;
+    let far = Token {
+        place: u32::MAX,
+        ..ON
+    };
     let spans = [over_leaves::<Span>(&[far]), over_leaves::<Span>(&[])];
     let unit = Span {
         start: 4294967295,

@@ -1,6 +1,7 @@
 use crate::words::{OFF, ON};
 use replay::{Event, recorded};
 use sink::SinkFault;
+use syntax::Token;
 
 const EMPTY: Event = Event::Node {
     production: 0,
@@ -48,9 +49,11 @@ fn a_trace_of_79_bytes_holds_four_records_and_leaves_the_last_15_bytes(rt: HostR
 #[test]
 fn a_number_of_64_bits_is_written_highest_byte_first(rt: HostRuntime) {
     let mut bytes = [0; 16];
-    let mut token = ON;
-    token.place = 0x01020304;
-    token.value = 0x1112131415161718;
+    let token = Token {
+        place: 0x01020304,
+        value: 0x1112131415161718,
+        ..ON
+    };
     let (answer, written) = recorded(1, &mut bytes, &[Event::Leaf(token)]);
     assert_eq!(rt; answer, Ok(()));
     let expected = [b'L', 1, 0, 0, 1, 2, 3, 4, 17, 18, 19, 20, 21, 22, 23, 24];

@@ -1,1 +1,2 @@
+mod Fresh
 pub mod Stacking

@@ -1,26 +1,25 @@
 -- What totals mean, and what their calls keep of a caller's places.
-use Rattle.std.specs.Prelude.{◌≡◌, ℕ, ◌-◌, List, length, take, drop, slice_set, refl}
+use Prim.Native.Nat.{zero-le}
+use Rattle.std.specs.Prelude.{◌≡◌, ℕ, ◌-◌, List, length, take, refl}
+use Rattle.std.specs.Borrow.{MutBor}
 use Rattle.std.proofs.Common.{◌∙◌}
 use Rattle.sink.specs.Stacks.{Stack, endless, limited}
-use Rattle.measure.specs.declared.Measure as measures
-use Rattle.measure.specs.Joins.{joined}
 use Rattle.totals.specs.declared.Totals.{Totals}
 
 module _ {M : Type 0} where
   abbrev pub places : Totals M → List M
   places t = t.places.now
 
-  -- the places in use are the list, and the others are free
-  abbrev pub meaning : Totals M → Stack M
-  meaning t = record {
-    list = take t.used (places t);
-    records = endless;
-    cells = limited (length (places t) - t.used);
-  }
+  -- all places are free
+  abbrev pub fresh : MutBor (List M) → Totals M
+  fresh lent = record { places = lent; used = 0; fits = zero-le }
 
-  -- the join of the places from a to e goes into the place a
-  abbrev pub merged : measures.Ghosts M → List M → ℕ → ℕ → List M
-  merged m ps a e = slice_set ps a (joined m (take (e - a) (drop a ps)))
+  -- the first n places are the list, and the others are free
+  abbrev pub stack : List M → ℕ → Stack M
+  stack ps n = record { list = take n ps; records = endless; cells = limited (length ps - n) }
+
+  abbrev pub meaning : Totals M → Stack M
+  meaning t = stack (places t) t.used
 
   -- some places begin with a list
   abbrev pub Begins : List M → List M → Type 0

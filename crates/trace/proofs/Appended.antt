@@ -1,13 +1,14 @@
 -- One record more.
 use Rattle.std.proofs.Common.{◌≡◌, ℕ, zero, suc, ◌+◌, ◌-◌, ◌*◌, ◌<◌, ◌≤◌, List, [], ◌∷◌, ◌++◌, length, take, drop, sym, refl, ap, ◌∙◌, subst, append_assoc, append-nil, add-one, arith, take-append-drop, take_all, take-take, take_at, drop_at}
+use denote.Ref.{at_last}
 use lib.Seq.{paste, take-paste, drop-paste, length-paste}
 use Rattle.std.proofs.lemmas.List.{drop-take, length-take-le}
-use Rattle.sink.specs.Stacks.{endless, limited, front, back}
+use Rattle.sink.specs.Stacks.{Stack, endless, limited, front, back}
 use Rattle.trace.specs.declared.Trace.{Trace}
 use Rattle.trace.specs.Records.{joined, places, record_at}
 use Rattle.trace.specs.Piles.{Pile, children, played, put, below, top, pile}
-use Rattle.trace.specs.Meaning.{bytes, written, listed, meaning, appended}
-use Rattle.trace.specs.Grown.{Whole, Grown}
+use Rattle.trace.specs.Meaning.{bytes, stack, meaning, appended}
+use Rattle.trace.specs.Grown.{Grown}
 use Rattle.trace.proofs.Piles.{front_top, back_top, top_put, joined_append}
 
 -- records that stand leave the pile that they left
@@ -64,53 +65,55 @@ rejoined k ts r =
     ∙ sym (append_assoc (joined (front k ts)) (joined (back k ts)) r)
     ∙ ap (λ l. l ++ r) (sym (joined_append (front k ts) (back k ts)) ∙ ap joined (take-append-drop (length ts - k) ts))
 
--- a trace b that is a with a record r more, which has the last k trees as its children
-module _ (a b : Trace) (k : ℕ) (r : List ℕ)
-    (free : written a < places (bytes a)) (few : k ≤ listed a) (sixteen : length r ≡ 16) (kids : children r ≡ k)
-    (bytes_is : bytes b ≡ paste (bytes a) (16 * written a) r 16)
-    (records_is : b.records ≡ written a + 1) (trees_is : b.trees ≡ listed a - k + 1) where
+-- the bytes of a trace with a record r more, which has the last k trees as its children
+module _ (a : Trace) (k : ℕ) (r new : List ℕ)
+    (free : a.records < places (bytes a)) (few : k ≤ a.trees) (sixteen : length r ≡ 16) (kids : children r ≡ k)
+    (new_is : new ≡ paste (bytes a) (16 * a.records) r 16) where
   abbrev was : Pile
-  was = pile (written a) (bytes a)
+  was = pile a.records (bytes a)
 
   abbrev ts : List (List ℕ)
   ts = (meaning a).list
 
-  long : length (bytes b) ≡ length (bytes a)
-  long = ap length bytes_is ∙ next_length (bytes a) (written a) r free sixteen
+  abbrev now : Stack (List ℕ)
+  now = stack new (a.records + 1) (a.trees - k + 1)
 
-  one_more : written b ≡ written a + 1
-  one_more = omega (arith, long)
+  long : length new ≡ length (bytes a)
+  long = ap length new_is ∙ next_length (bytes a) a.records r free sixteen
 
-  list_is : (meaning b).list ≡ front k ts ++ ((joined (back k ts) ++ r) ∷ [])
+  list_is : now.list ≡ front k ts ++ ((joined (back k ts) ++ r) ∷ [])
   list_is =
-      let trees : listed b ≡ listed a - k + 1 = omega (arith, one_more) in
       let pile_is =
-      (λ i. pile (one_more i) (bytes_is i)) ∙ next_pile (bytes a) (written a) r free sixteen
+      ap (pile (a.records + 1)) new_is ∙ next_pile (bytes a) a.records r free sixteen
       ∙ (λ i. put (joined (top (kids i) was) ++ r) (below (kids i) was)) in
-      (λ i. top (trees i) (pile_is i)) ∙ top_put (listed a - k) (joined (top k was) ++ r) (below k was)
-      ∙ sym (λ i. front_top (listed a) k was few i ++ ((joined (back_top (listed a) k was few i) ++ r) ∷ []))
+      ap (top (a.trees - k + 1)) pile_is ∙ top_put (a.trees - k) (joined (top k was) ++ r) (below k was)
+      ∙ sym (λ i. front_top a.trees k was few i ++ ((joined (back_top a.trees k was few i) ++ r) ∷ []))
 
-  pub one_tree : meaning b ≡ appended k r (meaning a)
+  pub one_tree : now ≡ appended k r (meaning a)
   one_tree =
-      let left : places (bytes b) - written b ≡ places (bytes a) - written a + 0 - 1 = omega (arith, long, one_more) in
+      let left : places new - (a.records + 1) ≡ places (bytes a) - a.records + 0 - 1 = omega (arith, long) in
       λ i. record { list = list_is i; records = limited (left i); cells = endless }
 
-  end : 16 * written b ≡ 16 * written a + 16
-  end = omega (arith, one_more)
+  end : 16 * (a.records + 1) ≡ 16 * a.records + 16
+  end = omega arith
 
-  whole : Whole a → Whole b
-  whole h =
-      ap joined list_is ∙ rejoined k ts r ∙ ap (λ l. l ++ r) h
-      ∙ sym (next_front (bytes a) (written a) r free sixteen) ∙ sym (λ i. take (end i) (bytes_is i))
-
-  pub grown : b.bytes.ghost_name ≡ a.bytes.ghost_name → Grown a b
-  grown lent = record {
-    lent = lent;
+  pub grown : (fits : a.records + 1 ≤ places new) (rooted : a.trees - k + 1 ≤ a.records + 1) →
+      Grown a (record {
+        bytes = at_last a.bytes new;
+        records = a.records + 1;
+        trees = a.trees - k + 1;
+        fits = fits;
+        rooted = rooted;
+      })
+  grown fits rooted = record {
+    lent = refl;
     long = long;
-    more = omega (arith, one_more);
-    front = ap (take (16 * written a)) bytes_is ∙ next_low (bytes a) (written a) r free sixteen;
+    more = omega arith;
+    front = ap (take (16 * a.records)) new_is ∙ next_low (bytes a) a.records r free sixteen;
     behind =
-        (λ i. drop (end i) (bytes_is i)) ∙ next_behind (bytes a) (written a) r free sixteen
+        (λ i. drop (end i) (new_is i)) ∙ next_behind (bytes a) a.records r free sixteen
         ∙ ap (λ m. drop m (bytes a)) (sym end);
-    whole = whole;
+    whole = λ h.
+        ap joined list_is ∙ rejoined k ts r ∙ ap (λ l. l ++ r) h
+        ∙ sym (next_front (bytes a) a.records r free sixteen) ∙ sym (λ i. take (end i) (new_is i));
   }

@@ -1,3 +1,3 @@
 pub mod Appended
+mod Fresh
 pub mod Piles
-pub mod Traced

@@ -3,22 +3,22 @@ use Rattle.std.specs.Prelude.{◌≡◌, ℕ, ◌+◌, ◌-◌, ◌*◌, ◌≤�
 use Rattle.std.proofs.Common.{sym, ap, ◌∙◌, arith, drop-drop, take-take}
 use Rattle.trace.specs.declared.Trace.{Trace}
 use Rattle.trace.specs.Records.{joined}
-use Rattle.trace.specs.Meaning.{bytes, written, meaning}
+use Rattle.trace.specs.Meaning.{bytes, meaning}
 
 -- the trees of the list are, record by record, all that was written
 abbrev pub Whole : Trace → Type 0
-Whole t = joined (meaning t).list ≡ take (16 * written t) (bytes t)
+Whole t = joined (meaning t).list ≡ take (16 * t.records) (bytes t)
 
 -- from a trace a to a later one b
 pub record Grown (a b : Trace) : Type 0 where
   -- over the same bytes
   pub lent : b.bytes.ghost_name ≡ a.bytes.ghost_name
   pub long : length (bytes b) ≡ length (bytes a)
-  pub more : written a ≤ written b
+  pub more : a.records ≤ b.records
   -- the records that stood stand
-  pub front : take (16 * written a) (bytes b) ≡ take (16 * written a) (bytes a)
+  pub front : take (16 * a.records) (bytes b) ≡ take (16 * a.records) (bytes a)
   -- behind the records all is as it was
-  pub behind : drop (16 * written b) (bytes b) ≡ drop (16 * written b) (bytes a)
+  pub behind : drop (16 * b.records) (bytes b) ≡ drop (16 * b.records) (bytes a)
   pub whole : Whole a → Whole b
 
 pub grown_none : (t : Trace) → Grown t t
@@ -44,8 +44,8 @@ grown_more a b c p q = record {
   lent = q.lent ∙ p.lent;
   long = q.long ∙ p.long;
   more = omega (arith, p.more, q.more);
-  front = front_twice (bytes a) (bytes b) (bytes c) (written a) (written b) p.more p.front q.front;
-  behind = behind_twice (bytes a) (bytes b) (bytes c) (written b) (written c) q.more p.behind q.behind;
+  front = front_twice (bytes a) (bytes b) (bytes c) a.records b.records p.more p.front q.front;
+  behind = behind_twice (bytes a) (bytes b) (bytes c) b.records c.records q.more p.behind q.behind;
   whole = λ e. q.whole (p.whole e);
 }
 

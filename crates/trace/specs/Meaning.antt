@@ -1,5 +1,7 @@
--- What a trace means, whatever stands in its fields.
-use Rattle.std.specs.Prelude.{ℕ, ◌-◌, min, List, ◌++◌}
+-- What a trace means.
+use Prim.Native.Nat.{zero-le}
+use Rattle.std.specs.Prelude.{ℕ, ◌-◌, List, ◌++◌}
+use Rattle.std.specs.Borrow.{MutBor}
 use Rattle.sink.specs.Stacks.{Stack, endless, limited, back, sent}
 use Rattle.trace.specs.declared.Trace.{Trace}
 use Rattle.trace.specs.Records.{joined, places}
@@ -8,21 +10,16 @@ use Rattle.trace.specs.Piles.{top, pile}
 abbrev pub bytes : Trace → List ℕ
 bytes t = t.bytes.now
 
--- how many records stand in the bytes; a number above that of the places stands for all of them
-abbrev pub written : Trace → ℕ
-written t = min t.records (places (bytes t))
+-- no record, and all places are free
+abbrev pub fresh : MutBor (List ℕ) → Trace
+fresh lent = record { bytes = lent; records = 0; trees = 0; fits = zero-le; rooted = zero-le }
 
--- how many trees these leave; a number above that of the records stands for all of them
-abbrev pub listed : Trace → ℕ
-listed t = min t.trees (written t)
+-- the t trees that n records leave in some bytes, and the places that are left
+abbrev pub stack : List ℕ → ℕ → ℕ → Stack (List ℕ)
+stack bs n t = record { list = top t (pile n bs); records = limited (places bs - n); cells = endless }
 
--- the trees that the records leave, and the places that are left
 abbrev pub meaning : Trace → Stack (List ℕ)
-meaning t = record {
-  list = top (listed t) (pile (written t) (bytes t));
-  records = limited (places (bytes t) - written t);
-  cells = endless;
-}
+meaning t = stack (bytes t) t.records t.trees
 
 -- a record r makes one tree of the last k, with itself behind them
 abbrev pub appended : ℕ → List ℕ → Stack (List ℕ) → Stack (List ℕ)

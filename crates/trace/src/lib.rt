@@ -3,30 +3,29 @@
 
 ghost use Rattle.std.specs.Prelude.{◌≡◌, ℕ, ◌+◌, ◌<◌, ◌≤◌, List, length};
 ghost use Rattle.std.proofs.Math.Seq.{paste};
-ghost use Rattle.trace.specs.declared.Trace.{Trace};
 ghost use Rattle.trace.specs.Records.{leaf_record, node_record, postfix, places};
 ghost use Rattle.trace.specs.Piles.{children as children_of};
-ghost use Rattle.trace.specs.Meaning.{bytes as bytes_of, written as written_of, listed as listed_of};
-ghost use Rattle.trace.specs.Meaning.{meaning as stack_of, appended};
-ghost use Rattle.trace.specs.Grown.{Grown, grown_none, grown_more, Traced};
 
 use sink::{Sink, SinkFault};
 use syntax::Token;
 
-/// Events as records in a caller's bytes: `records` of them, which leave `trees` trees. A number above its bound
-/// stands for the bound, so every value of this struct is a trace: there are no more records than places, and no more
-/// trees than records.
+/// Events as records in a caller's bytes: `records` of them, which leave `trees` trees.
 #[derive(Drop)]
 pub struct Trace<'a> {
     pub(crate) bytes: &'a mut [u8],
     pub(crate) records: usize,
     pub(crate) trees: usize,
+    ghost fits: { records ≤ places bytes.now },
+    ghost rooted: { trees ≤ records },
 }
 
 impl<'a> Trace<'a> {
+    ghost use Rattle.trace.specs.Meaning.{fresh, bytes as bytes_of, meaning as stack_of, appended};
+    ghost use Rattle.trace.specs.Grown.{Grown, Traced};
+
     /// A trace without a record; all bytes are as they were.
     pub fn new(bytes: &'a mut [u8]) -> Trace<'a>
-        ensures { result ≡ record { bytes = bytes.entry; records = 0; trees = 0 } }
+        ensures { result ≡ fresh bytes.entry }
     {
         Trace {
             bytes,
@@ -37,9 +36,9 @@ impl<'a> Trace<'a> {
 
     /// How many records stand in the bytes.
     pub fn written(&self) -> usize
-        ensures { result ≡ written_of self.now }
+        ensures { result ≡ self.now.records }
     {
-        self.records.min(self.bytes.len() / 16)
+        self.records
     }
 
     /// Hands the bytes back. From `new` on they are the trees of the list, record by record, and behind these all is
@@ -48,35 +47,29 @@ impl<'a> Trace<'a> {
         ensures bytes { result ≡ self.entry.bytes }
         ensures records { Traced self.entry }
     {
-        let Trace {
-            bytes,
-            records: _,
-            trees: _,
-        } = self;
+        let Trace { bytes, .. } = self;
         bytes
     }
 
     /// How many trees the records leave.
-    fn listed(&self) -> usize
-        ensures bound { result ≡ listed_of self.now }
+    fn listed(&self) -> u64
+        ensures trees { result ≡ self.now.trees }
         ensures list { result ≡ length (stack_of self.now).list }
     {
-        self.trees.min(self.written())
+        self.trees as u64
     }
 
     /// Writes a record, which makes one tree of the last `children`.
     fn append(&mut self, children: usize, event: [u8; 16])
-        requires room { written_of self.old < places (bytes_of self.old) }
-        requires trees { children ≤ listed_of self.old }
+        requires room { self.old.records < places (bytes_of self.old) }
+        requires trees { children ≤ self.old.trees }
         requires children { children_of event ≡ children }
         ensures after { stack_of self.new ≡ appended children event (stack_of self.old) }
         ensures memory { Grown self.old self.new }
     {
-        let records = self.written();
-        let trees = self.listed();
-        write_record(self.bytes, 16 * records, event);
-        self.records = records + 1;
-        self.trees = trees - children + 1;
+        write_record(self.bytes, 16 * self.records, event);
+        self.records += 1;
+        self.trees = self.trees - children + 1;
     }
 }
 
@@ -102,6 +95,7 @@ fn node_record(production: u8, children: u8) -> [u8; 16]
 }
 
 /// Writes `event` at `at`; the bytes before and behind it stay.
+// `as_chunks_mut` would give places of 16, but its contract leaves open what the bytes hold after a write to one.
 fn write_record(bytes: &mut [u8], at: usize, event: [u8; 16])
     requires { at + 16 ≤ length bytes.old }
     ensures { bytes.new ≡ paste bytes.old at event 16 }
@@ -110,6 +104,9 @@ fn write_record(bytes: &mut [u8], at: usize, event: [u8; 16])
 }
 
 impl<'a> Sink for Trace<'a> {
+    ghost use Rattle.trace.specs.Meaning.{meaning as stack_of};
+    ghost use Rattle.trace.specs.Grown.{Grown, grown_none, grown_more};
+
     ghost Value = { List ℕ };
 
     ghost algebra = { postfix };
@@ -123,13 +120,13 @@ impl<'a> Sink for Trace<'a> {
     ghost onward = { grown_more };
 
     fn trees(&self) -> u64 {
-        self.listed() as u64
+        self.listed()
     }
 
     fn leaf(&mut self, token: Token) -> Result<(), SinkFault> {
-        if self.written() == self.bytes.len() / 16 {
+        if self.records == self.bytes.len() / 16 {
             return Err(SinkFault::Full {
-                trees: self.listed() as u64,
+                trees: self.listed(),
             });
         }
         self.append(0, leaf_record(token));
@@ -138,15 +135,11 @@ impl<'a> Sink for Trace<'a> {
 
     fn node(&mut self, production: u8, children: u8) -> Result<(), SinkFault> {
         let trees = self.listed();
-        if trees < children as usize {
-            return Err(SinkFault::TooFewTrees {
-                trees: trees as u64,
-            });
+        if trees < u64::from(children) {
+            return Err(SinkFault::TooFewTrees { trees });
         }
-        if self.written() == self.bytes.len() / 16 {
-            return Err(SinkFault::Full {
-                trees: trees as u64,
-            });
+        if self.records == self.bytes.len() / 16 {
+            return Err(SinkFault::Full { trees });
         }
         self.append(children as usize, node_record(production, children));
         Ok(())

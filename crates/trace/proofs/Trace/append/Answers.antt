@@ -1,7 +1,4 @@
-use Rattle.std.proofs.Common.{◌≡◌, ◌+◌, ◌-◌, ◌*◌, length, refl, ap, ◌∙◌, rules}
-use lib.Seq.{paste}
-use denote.Ref.{at_last}
-use Rattle.trace.specs.declared.Trace.{Trace}
+use Rattle.std.proofs.Common.{◌≡◌, length, rules}
 use Rattle.trace.proofs.Appended.{one_tree, grown}
 use Rattle.trace.proofs.Trace.append.Goals as goal
 
@@ -10,17 +7,11 @@ returns c =
     let a = c.args.self.now in
     let k = c.args.children in
     let r = c.args.event in
+    let new = c.write_record.new.bytes in
     let sixteen : length r ≡ 16 = search rules in
-    let b : Trace = record {
-      bytes = at_last a.bytes c.write_record.new.bytes;
-      records = c.written-records.result + 1;
-      trees = c.listed-trees.result - k + 1;
-    } in
-    let place = c.written-records.ensures in
-    let bytes = c.write_record.ensures ∙ ap (λ n. paste a.bytes.now (16 * n) r 16) place in
-    let records = ap (λ n. n + 1) place in
-    let trees = ap (λ n. n - k + 1) c.listed-trees.ensures.bound in
+    let here = c.requires in
+    let written = c.write_record.ensures in
     record {
-      after = one_tree a b k r c.requires.room c.requires.trees sixteen c.requires.children bytes records trees;
-      memory = grown a b k r c.requires.room c.requires.trees sixteen c.requires.children bytes records trees refl;
+      after = one_tree a k r new here.room here.trees sixteen here.children written;
+      memory = grown a k r new here.room here.trees sixteen here.children written _ _;
     }
