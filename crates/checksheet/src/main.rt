@@ -7,7 +7,7 @@ ghost use Rattle.checksheet.specs.Judged.{judged};
 use anyhow::anyhow;
 use layout::Refusal;
 use sheet::RawSheet;
-use std::{env, fs};
+use std::{env, fs, io};
 
 const USAGE: &str = "usage: checksheet [--no-fail] FILE..
   tells of each file whether it is a well-formed sheet; the status is 1 if one was refused or could not be read
@@ -17,8 +17,7 @@ const USAGE: &str = "usage: checksheet [--no-fail] FILE..
 fn judge(bytes: &[u8]) -> Result<usize, Refusal>
     ensures { result ≡ judged bytes.now }
 {
-    let mut sheet = RawSheet::practice();
-    RawSheet::open(&mut sheet, bytes)?;
+    let sheet = RawSheet::from_bytes(bytes)?;
     Ok(sheet.records())
 }
 
@@ -35,58 +34,49 @@ fn words(refusal: Refusal) -> &'static str {
     }
 }
 
-/// How the files went.
-#[derive(Clone, Copy)]
-struct Tally {
-    refused: bool,
-    unread: bool,
+/// How it went with a file.
+#[derive(Clone, Copy, PartialEq, Eq)]
+enum Told {
+    WellFormed,
+    Refused,
+    Unread,
 }
 
-fn tell(rt: &HostRuntime, name: &str, tally: &mut Tally) -> anyhow::Result<()> {
+fn tell(rt: &HostRuntime, name: &str) -> io::Result<Told> {
     let bytes = match fs::read(rt, name) {
         Ok(bytes) => bytes,
         Err(error) => {
-            tally.unread = true;
             eprintln!(rt; "{name}: {error}")?;
-            return Ok(());
+            return Ok(Told::Unread);
         }
     };
     match judge(bytes.as_slice()) {
-        Ok(records) => println!(rt; "{name}: well-formed, {records} records")?,
+        Ok(records) => {
+            println!(rt; "{name}: well-formed, {records} records")?;
+            Ok(Told::WellFormed)
+        }
         Err(refusal) => {
-            tally.refused = true;
-            let number = refusal.number();
-            let place = refusal.place();
-            let why = words(refusal);
-            println!(rt; "{name}: refused {number} at {place}: {why}")?;
+            println!(rt; "{name}: refused {refusal}: {}", words(refusal))?;
+            Ok(Told::Refused)
         }
     }
-    Ok(())
 }
 
 fn main(rt: HostRuntime) -> anyhow::Result<()> {
-    let mut tally = Tally {
-        refused: false,
-        unread: false,
-    };
+    let mut told = Vec::new(rt.alloc());
     let mut lenient = false;
-    let mut files = 0u64;
     for arg in env::args(&rt)?.skip(1) {
-        let name = arg.as_str();
-        match name {
+        match arg.as_str() {
             "--help" => return Ok(rt.println(USAGE)?),
             "--no-fail" => lenient = true,
-            _ => {
-                files = files.saturating_add(1);
-                tell(&rt, name, &mut tally)?;
-            }
+            name => told.push(tell(&rt, name)?)?,
         }
     }
-    if files == 0 {
+    if told.is_empty() {
         rt.eprintln(USAGE)?;
         return Err(anyhow!("no file was named"));
     }
-    if tally.unread || (tally.refused && !lenient) {
+    if told.contains(&Told::Unread) || (told.contains(&Told::Refused) && !lenient) {
         return Err(anyhow!("a file was refused or could not be read"));
     }
     Ok(())

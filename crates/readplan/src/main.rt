@@ -2,18 +2,17 @@
 #![tactic(auto)]
 
 use crate::request::{Request, USAGE};
-use crate::session::{Told, show_end, trace_checked, trace_raw};
-use crate::show::show_events;
+use crate::session::Session;
+use crate::sheets::Sheet;
 use anyhow::anyhow;
 use checker::CheckedSheet;
-use layout::Refusal;
-use pile::PileRefusal;
+use pile::Plan;
 use sheet::RawSheet;
-use std::{env, fs, io};
-use table::Table;
+use std::{env, fs};
 
 mod request;
 mod session;
+mod sheets;
 mod show;
 
 fn load(rt: &HostRuntime, name: &str) -> anyhow::Result<Vec<u8>> {
@@ -23,70 +22,43 @@ fn load(rt: &HostRuntime, name: &str) -> anyhow::Result<Vec<u8>> {
     }
 }
 
-fn refuse_sheet(rt: &HostRuntime, refusal: Refusal) -> io::Result<bool> {
-    let number = refusal.number();
-    let place = refusal.place();
-    println!(rt; "sheet refused {number} at {place}")?;
-    Ok(false)
-}
-
-fn refuse_plan(rt: &HostRuntime, refusal: PileRefusal) -> io::Result<bool> {
-    let number = refusal.number();
-    let place = refusal.place();
-    println!(rt; "plan refused {number} at {place}")?;
-    Ok(false)
-}
-
-// The end of the record, or the refusal; whether nothing was refused.
-fn end<T: Table + Copy + Drop>(
-    rt: &HostRuntime,
-    table: T,
-    plan: &[u8],
-    request: &Request,
-    told: Told,
+// Reads the plan by the sheet in these bytes; whether nothing was refused.
+fn read_by<'s, T: Sheet<'s>>(
+    rt: &'s HostRuntime,
+    request: &'s Request,
+    bytes: &'s [u8],
+    plan: &'s [u8],
 ) -> anyhow::Result<bool> {
-    match told {
-        Ok(report) => {
-            show_end(rt, table, plan, request, report)?;
-            Ok(true)
+    let sheet = match T::load(bytes) {
+        Ok(sheet) => sheet,
+        Err(refusal) => {
+            println!(rt; "sheet refused {refusal}")?;
+            return Ok(false);
         }
-        Err(refusal) => Ok(refuse_plan(rt, refusal)?),
+    };
+    let plan = Plan {
+        text: plan,
+        words: request.words.as_slice(),
+        limit: request.limit,
+    };
+    Session {
+        rt,
+        request,
+        plan,
+        sheet,
     }
-}
-
-fn read_checked(rt: &HostRuntime, request: &Request) -> anyhow::Result<bool> {
-    let bytes = load(rt, request.sheet.as_str())?;
-    let plan = load(rt, request.plan.as_str())?;
-    let mut sheet = CheckedSheet::practice();
-    if let Err(refusal) = CheckedSheet::check(&mut sheet, bytes.as_slice()) {
-        return Ok(refuse_sheet(rt, refusal)?);
-    }
-    let mut records: Vec<u8> = vec![in rt.alloc(); 0; request.records.saturating_mul(16)]?;
-    let traced = trace_checked(rt, sheet, plan.as_slice(), request, records.as_mut_slice());
-    show_events(rt, traced.bytes)?;
-    end(rt, sheet, plan.as_slice(), request, traced.told?)
-}
-
-fn read_raw(rt: &HostRuntime, request: &Request) -> anyhow::Result<bool> {
-    let bytes = load(rt, request.sheet.as_str())?;
-    let plan = load(rt, request.plan.as_str())?;
-    let mut sheet = RawSheet::practice();
-    if let Err(refusal) = RawSheet::open(&mut sheet, bytes.as_slice()) {
-        return Ok(refuse_sheet(rt, refusal)?);
-    }
-    let mut records: Vec<u8> = vec![in rt.alloc(); 0; request.records.saturating_mul(16)]?;
-    let traced = trace_raw(rt, sheet, plan.as_slice(), request, records.as_mut_slice());
-    show_events(rt, traced.bytes)?;
-    end(rt, sheet, plan.as_slice(), request, traced.told?)
+    .record()
 }
 
 // One command; whether nothing was refused.
 fn obey(rt: &HostRuntime, words: &[String]) -> anyhow::Result<bool> {
     let request = Request::read(rt.alloc(), words)?;
+    let bytes = load(rt, request.sheet.as_str())?;
+    let plan = load(rt, request.plan.as_str())?;
     if request.raw {
-        read_raw(rt, &request)
+        read_by::<RawSheet<'_>>(rt, &request, bytes.as_slice(), plan.as_slice())
     } else {
-        read_checked(rt, &request)
+        read_by::<CheckedSheet<'_>>(rt, &request, bytes.as_slice(), plan.as_slice())
     }
 }
 

@@ -1,6 +1,6 @@
 use anyhow::anyhow;
+use keyword_text::parse_keyword;
 use keywords::Keyword;
-use lexer::spelling;
 use std::alloc::{AllocError, Global};
 
 pub const USAGE: &str = "usage: readplan [OPTIONS] SHEET PLAN
@@ -79,7 +79,7 @@ impl Request {
         match option {
             "--turns" => self.add_turns(value)?,
             "--limit" => self.limit = value.parse::<u64>()?,
-            "--word" => self.words.push(keyword(value)?)?,
+            "--word" => self.words.push(parse_keyword(value)?)?,
             "--quota" => self.quota = value.parse::<u64>()?,
             "--records" => self.records = value.parse::<usize>()?,
             _ => self.cells = value.parse::<usize>()?,
@@ -119,18 +119,4 @@ impl Request {
         }
         Ok(())
     }
-}
-
-// A keyword as an argument writes it: its spelling, and behind `=` its kind.
-fn keyword(text: &str) -> anyhow::Result<Keyword> {
-    let Some((letters, kind)) = text.split_once('=') else {
-        return Err(anyhow!("a keyword is SPELLING=KIND"));
-    };
-    let Some(spelling) = spelling(letters.as_bytes()) else {
-        return Err(anyhow!("a spelling has 1 to 8 letters a to z"));
-    };
-    Ok(Keyword {
-        spelling,
-        kind: kind.parse::<u8>()?,
-    })
 }

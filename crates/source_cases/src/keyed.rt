@@ -15,11 +15,7 @@ fn list_word<S: Source>(
 ) -> io::Result<()> {
     match words.add(Keyword { spelling, kind }) {
         Ok(()) => println!(rt; "    {what}: listed"),
-        Err(refusal) => {
-            let number = refusal.number();
-            let place = refusal.place();
-            println!(rt; "    {what}: refused, {number} at {place}")
-        }
+        Err(refusal) => println!(rt; "    {what}: refused, {refusal}"),
     }
 }
 

@@ -15,14 +15,11 @@ fn token(kind: u8, place: u32) -> Token {
 // Three tokens of these kinds, or where they are refused.
 pub fn show_list(rt: &HostRuntime, kinds: [u8; 3]) -> io::Result<()> {
     println!(rt; "a list of kinds {kinds:?}")?;
-    let tokens = [token(kinds[0], 0), token(kinds[1], 1), token(kinds[2], 2)];
+    let [a, b, c] = kinds;
+    let tokens = [token(a, 0), token(b, 1), token(c, 2)];
     let mut source = ListSource::empty();
     match source.open(&tokens) {
         Ok(()) => show(rt, &mut source),
-        Err(refusal) => {
-            let number = refusal.number();
-            let place = refusal.place();
-            println!(rt; "    refused: {number} at {place}")
-        }
+        Err(refusal) => println!(rt; "    refused: {refusal}"),
     }
 }

@@ -6,23 +6,17 @@ use std::io;
 
 // A plan, or its refusal.
 pub fn show_plan(rt: &HostRuntime, plan: &[u8]) -> io::Result<()> {
-    let bytes = plan.len();
-    println!(rt; "a plan of {bytes} bytes")?;
+    println!(rt; "a plan of {} bytes", plan.len())?;
     let mut lexer = Lexer::empty();
     match lexer.open(plan) {
         Ok(()) => show(rt, &mut lexer),
-        Err(refusal) => {
-            let number = refusal.number();
-            let place = refusal.place();
-            println!(rt; "    refused: {number} at {place}")
-        }
+        Err(refusal) => println!(rt; "    refused: {refusal}"),
     }
 }
 
 // A plan under a limit.
 pub fn show_limited(rt: &HostRuntime, plan: &[u8], limit: u64) -> io::Result<()> {
-    let bytes = plan.len();
-    println!(rt; "a plan of {bytes} bytes under a limit of {limit}")?;
+    println!(rt; "a plan of {} bytes under a limit of {limit}", plan.len())?;
     let mut lexer = Lexer::empty();
     let _ = lexer.open(plan);
     show(rt, &mut Limit::new(lexer, limit))

@@ -1,4 +1,4 @@
-use source::{Source, SourceFault};
+use source::Source;
 use std::io;
 use syntax::Token;
 
@@ -8,22 +8,14 @@ pub fn show<S: Source>(rt: &HostRuntime, source: &mut S) -> io::Result<()> {
         match source.take() {
             Ok(Some(token)) => show_token(rt, token)?,
             Ok(None) => return println!(rt; "    END"),
-            Err(fault) => return show_fault(rt, fault),
+            Err(fault) => return println!(rt; "    fault {fault}, layer {}", fault.layer()),
         }
     }
 }
 
 pub fn show_token(rt: &HostRuntime, token: Token) -> io::Result<()> {
-    let kind = token.kind;
-    let place = token.place;
-    let length = token.length;
-    let value = token.value;
-    println!(rt; "    kind {kind} at {place}, length {length}, value {value}")
-}
-
-fn show_fault(rt: &HostRuntime, fault: SourceFault) -> io::Result<()> {
-    let number = fault.number();
-    let place = fault.place();
-    let layer = fault.layer();
-    println!(rt; "    fault {number} at {place}, layer {layer}")
+    println!(rt;
+        "    kind {} at {}, length {}, value {}",
+        token.kind, token.place, token.length, token.value
+    )
 }

@@ -2,12 +2,11 @@
 use Rattle.std.specs.Prelude.{◌≡◌, ℕ, List, [], Some, None, Ok, Err, vec_items, Option, Result}
 use Rattle.source.specs.declared.SourceFault.{SourceFault}
 use Rattle.source.specs.Streams.{Ending, end, fault, Stream}
-use Rattle.streams.specs.declared.Keyword.{Keyword}
-use Rattle.lexer.specs.Opening.{open_answer}
-use Rattle.pile.specs.Piles.{piled, add_all}
+use Rattle.pile.specs.declared.Plan as given
+use Rattle.pile.specs.Piles.{plan_stream, plan_answer}
 use Rattle.tokens.specs.declared.listing.Listing.{Listing}
 use Rattle.tokens.specs.declared.refusal.Refusal.{Refusal}
-use Rattle.tokens.specs.declared.refusal.Refusal.TheVariants.{Plan, Word, Memory}
+use Rattle.tokens.specs.declared.refusal.Refusal.TheVariants.{Plan, Memory}
 
 abbrev pub fault_of : Ending → Option SourceFault
 fault_of end = None
@@ -22,9 +21,8 @@ pub record Lists (s : Stream) (l : Listing) : Type 0 where
 abbrev pub emptied : Stream → Stream
 emptied s = record { tokens = []; ending = s.ending }
 
--- the answer for a plan: what is refused, the plan first and then a keyword, or the listing
-abbrev pub Answers : List ℕ → List Keyword → ℕ → Result Listing Refusal → Type 0
-Answers plan ws n (Ok l) = (open_answer plan ≡ Ok tt) × (add_all [] ws ≡ Ok tt) × Lists (piled plan ws n) l
-Answers plan ws n (Err (Plan e)) = open_answer plan ≡ Err e
-Answers plan ws n (Err (Word e)) = (open_answer plan ≡ Ok tt) × (add_all [] ws ≡ Err e)
-Answers plan ws n (Err Memory) = Unit {0}
+-- the answer for a plan: what is refused of it, or the listing
+abbrev pub Answers : given.Plan → Result Listing Refusal → Type 0
+Answers p (Ok l) = (plan_answer p ≡ Ok tt) × Lists (plan_stream p) l
+Answers p (Err (Plan e)) = plan_answer p ≡ Err e
+Answers p (Err Memory) = Unit {0}

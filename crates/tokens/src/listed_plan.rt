@@ -3,10 +3,7 @@ ghost use Rattle.tokens.specs.Listings.{Lists, emptied, Answers};
 
 use crate::listing::Listing;
 use crate::refusal::Refusal;
-use keywords::{Keyword, Keywords};
-use lexer::Lexer;
-use limit::Limit;
-use pile::add_all;
+use pile::Plan;
 use source::Source;
 use std::alloc::{AllocError, Global};
 
@@ -32,20 +29,11 @@ pub fn list<S: Source>(heap: Global, source: &mut S) -> Result<Listing, AllocErr
     }
 }
 
-// The tokens of a plan: the lexer, the keyword layer over it, and the limit layer over that.
-pub fn list_plan(
-    heap: Global,
-    plan: &[u8],
-    words: &[Keyword],
-    limit: u64,
-) -> Result<Listing, Refusal>
-    ensures { Answers plan.now words.now limit result }
+// The tokens of a plan.
+pub fn list_plan(heap: Global, plan: Plan<'_>) -> Result<Listing, Refusal>
+    ensures { Answers plan.entry result }
 {
-    let mut lexer = Lexer::empty();
-    lexer.open(plan)?;
-    let mut keywords = Keywords::new(lexer);
-    add_all(&mut keywords, words)?;
-    let mut pile = Limit::new(keywords, limit);
-    let listing = list(heap, &mut pile)?;
+    let mut source = plan.open()?;
+    let listing = list(heap, &mut source)?;
     Ok(listing)
 }

@@ -8,6 +8,7 @@ use crate::listed_plan::list_plan;
 use crate::listing::Listing;
 use crate::refusal::Refusal;
 use crate::request::Request;
+use pile::{PileRefusal, Plan};
 use std::{env, fs, io};
 
 mod listed_plan;
@@ -18,35 +19,21 @@ mod request;
 fn show(rt: &HostRuntime, listing: &Listing) -> io::Result<()> {
     println!(rt; "kind place length value")?;
     for token in listing.tokens.iter() {
-        let kind = token.kind;
-        let place = token.place;
-        let length = token.length;
-        let value = token.value;
-        println!(rt; "{kind} {place} {length} {value}")?;
+        println!(rt;
+            "{} {} {} {}",
+            token.kind, token.place, token.length, token.value
+        )?;
     }
     match listing.fault {
         None => println!(rt; "END"),
-        Some(fault) => {
-            let number = fault.number();
-            let place = fault.place();
-            let layer = fault.layer();
-            println!(rt; "fault {number} at {place}, layer {layer}")
-        }
+        Some(fault) => println!(rt; "fault {fault}, layer {}", fault.layer()),
     }
 }
 
 fn show_refusal(rt: &HostRuntime, refusal: Refusal) -> io::Result<()> {
     match refusal {
-        Refusal::Plan(long) => {
-            let number = long.number();
-            let place = long.place();
-            println!(rt; "plan refused: {number} at {place}")
-        }
-        Refusal::Word(refused) => {
-            let number = refused.number();
-            let place = refused.place();
-            println!(rt; "keyword refused: {number} at {place}")
-        }
+        Refusal::Plan(PileRefusal::Plan(long)) => println!(rt; "plan refused: {long}"),
+        Refusal::Plan(PileRefusal::Word(refused)) => println!(rt; "keyword refused: {refused}"),
         Refusal::Memory => println!(rt; "no memory"),
     }
 }
@@ -54,13 +41,13 @@ fn show_refusal(rt: &HostRuntime, refusal: Refusal) -> io::Result<()> {
 fn run(rt: &HostRuntime) -> anyhow::Result<()> {
     let heap = rt.alloc();
     let request = Request::read(heap, env::args(rt)?)?;
-    let plan = fs::read(rt, request.path.as_str())?;
-    match list_plan(
-        heap,
-        plan.as_slice(),
-        request.words.as_slice(),
-        request.limit,
-    ) {
+    let text = fs::read(rt, request.path.as_str())?;
+    let plan = Plan {
+        text: text.as_slice(),
+        words: request.words.as_slice(),
+        limit: request.limit,
+    };
+    match list_plan(heap, plan) {
         Ok(listing) => show(rt, &listing)?,
         Err(refusal) => show_refusal(rt, refusal)?,
     }

@@ -1,30 +1,20 @@
 ghost use Rattle.std.specs.Prelude.{◌≡◌};
-ghost use Rattle.tokens.specs.declared.refusal.Refusal.TheVariants.{Plan, Word, Memory};
+ghost use Rattle.tokens.specs.declared.refusal.Refusal.TheVariants.{Plan, Memory};
 
-use keywords::KeywordRefusal;
-use lexer::PlanRefusal;
+use pile::PileRefusal;
 use std::alloc::AllocError;
 
 // Why a plan is not listed.
 pub enum Refusal {
-    Plan(PlanRefusal),
-    Word(KeywordRefusal),
+    Plan(PileRefusal),
     Memory,
 }
 
-impl From<PlanRefusal> for Refusal {
+impl From<PileRefusal> for Refusal {
     ghost from_gives = { λ e r. r ≡ Plan e };
 
-    fn from(refusal: PlanRefusal) -> Refusal {
+    fn from(refusal: PileRefusal) -> Refusal {
         Refusal::Plan(refusal)
-    }
-}
-
-impl From<KeywordRefusal> for Refusal {
-    ghost from_gives = { λ e r. r ≡ Word e };
-
-    fn from(refusal: KeywordRefusal) -> Refusal {
-        Refusal::Word(refusal)
     }
 }
 

@@ -1,6 +1,6 @@
 use anyhow::anyhow;
+use keyword_text::parse_keyword;
 use keywords::Keyword;
-use lexer::spelling;
 use std::alloc::Global;
 use std::env::Args;
 
@@ -21,7 +21,7 @@ impl Request {
             if let Some(number) = arg.as_str().strip_prefix("--limit=") {
                 limit = number.parse::<u64>()?;
             } else if let Some(word) = arg.as_str().strip_prefix("--word=") {
-                words.push(keyword(word)?)?;
+                words.push(parse_keyword(word)?)?;
             } else {
                 path = arg;
             }
@@ -31,18 +31,4 @@ impl Request {
         }
         Ok(Request { path, words, limit })
     }
-}
-
-// A keyword as an argument writes it: its spelling, and behind `=` its kind.
-fn keyword(text: &str) -> anyhow::Result<Keyword> {
-    let Some((letters, kind)) = text.split_once('=') else {
-        return Err(anyhow!("a keyword is SPELLING=KIND"));
-    };
-    let Some(spelling) = spelling(letters.as_bytes()) else {
-        return Err(anyhow!("a spelling has 1 to 8 letters a to z"));
-    };
-    Ok(Keyword {
-        spelling,
-        kind: kind.parse::<u8>()?,
-    })
 }
