@@ -20,3 +20,12 @@ abbrev pub has_kind : Ahead → Bool
 has_kind (Ok (Some t)) = is_kind t.kind
 has_kind (Ok None) = true
 has_kind (Err f) = true
+
+-- the same where the item may not have been looked at: then it still stands in what comes behind
+abbrev pub with_seen : Option Ahead → Stream → Stream
+with_seen (Some a) s = with_ahead a s
+with_seen None s = s
+
+abbrev pub has_seen_kind : Option Ahead → Bool
+has_seen_kind (Some a) = has_kind a
+has_seen_kind None = true

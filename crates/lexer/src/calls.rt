@@ -43,25 +43,27 @@ impl<'a> Lexer<'a> {
         Ok(())
     }
 
-    // A lexer at the start of a plan, which looks at the first item at once.
+    // A lexer at the start of a plan, of which nothing was looked at.
     fn over(plan: &'a [u8]) -> Lexer<'a>
         requires { length plan.now ≤ 65535 }
         ensures { stream result ≡ lexed_from 0 plan.now }
     {
-        let mut lexer = Lexer {
+        Lexer {
             plan,
             at: 0,
-            ahead: Ok(None),
-        };
-        lexer.advance();
-        lexer
+            ahead: None,
+        }
     }
 
-    // Looks at the item behind the position.
-    fn advance(&mut self)
-        ensures { stream self.new ≡ unread self.old }
+    // The item that comes next: what the last look at it found, else a first look.
+    fn look(&mut self) -> Result<Option<Token>, SourceFault>
+        ensures looked { with_ahead result (unread self.new) ≡ stream self.old }
+        ensures kind { has_kind result ≡ true }
     {
-        self.ahead = self.scan();
+        match self.ahead {
+            Some(seen) => seen,
+            None => self.scan(),
+        }
     }
 
     // Scans the item behind the position. Behind a token, the position moves on.
@@ -95,14 +97,18 @@ impl Source for Lexer<'_> {
     ghost kinded = { stream_kinded };
 
     fn peek(&mut self) -> Result<Option<Token>, SourceFault> {
-        self.ahead
+        let seen = self.look();
+        self.ahead = Some(seen);
+        seen
     }
 
     fn take(&mut self) -> Result<Option<Token>, SourceFault> {
-        let answer = self.ahead;
-        if let Ok(Some(_)) = answer {
-            self.advance();
-        }
-        answer
+        let taken = self.look();
+        self.ahead = match taken {
+            Ok(Some(_)) => None,
+            // Nothing comes behind an ending.
+            Ok(None) | Err(_) => Some(taken),
+        };
+        taken
     }
 }

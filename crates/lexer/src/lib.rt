@@ -2,7 +2,7 @@
 #![tactic(auto)]
 
 ghost use Rattle.std.specs.Prelude.{◌≡◌, ◌≤◌, true, length};
-ghost use Rattle.lexer.specs.Ahead.{has_kind};
+ghost use Rattle.lexer.specs.Ahead.{has_seen_kind};
 
 pub use opening::PlanRefusal;
 use source::SourceFault;
@@ -18,11 +18,11 @@ mod spell;
 #[derive(Drop)]
 pub struct Lexer<'a> {
     plan: &'a [u8],
-    // Behind the token that comes next, if one does.
+    // Behind the token that was looked at, if one was.
     at: usize,
-    // What a peek answers: the lexer looks one item ahead.
-    ahead: Result<Option<Token>, SourceFault>,
+    // What the look at the next item found. No item is looked at before it is asked for.
+    ahead: Option<Result<Option<Token>, SourceFault>>,
     ghost short: { length plan.now ≤ 65535 },
     ghost within: { at ≤ length plan.now },
-    ghost kind: { has_kind ahead ≡ true },
+    ghost kind: { has_seen_kind ahead ≡ true },
 }

@@ -18,7 +18,8 @@ pub fn spelling(letters: &[u8]) -> Option<u64>
 fn is_word(bytes: &[u8]) -> bool
     ensures { result ≡ is_word bytes.now }
 {
-    are_letters(bytes) && matches!(bytes.len(), 1..=8)
+    // The length first, so that no long run is looked at.
+    matches!(bytes.len(), 1..=8) && are_letters(bytes)
 }
 
 fn are_letters(bytes: &[u8]) -> bool

@@ -16,14 +16,15 @@ use std::fmt;
 
 /// The bytes of a plan, what keywords there are in it, and how many of its tokens are read at most.
 #[derive(Clone, Copy)]
-pub struct Plan<'p> {
+pub struct Plan<'p, 'w> {
     pub text: &'p [u8],
-    pub words: &'p [Keyword],
+    pub words: &'w [Keyword],
     pub limit: u64,
 }
 
-impl<'p> Plan<'p> {
-    /// The tokens of the plan: the lexer is layer 0, the keywords are layer 1, the limit is layer 2.
+impl<'p> Plan<'p, '_> {
+    /// The tokens of the plan: the lexer is layer 0, the keywords are layer 1, the limit is layer 2. The keywords are
+    /// copied, so that their list may go while the tokens are read.
     pub fn open(self) -> Result<Limit<Keywords<Lexer<'p>>>, PileRefusal>
         ensures answer { MatchResult result
             (λ _. plan_answer self.entry ≡ Good tt)

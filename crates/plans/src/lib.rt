@@ -28,7 +28,7 @@ pub struct PlanRead<K> {
 /// Reads a plan by any table. A plan or a keyword that is refused leaves the sink as it was.
 pub fn read_plan<T: Table + Drop, K: Sink>(
     table: T,
-    plan: Plan<'_>,
+    plan: Plan<'_, '_>,
     sink: K,
     calls: &[Call],
 ) -> PlanRead<K>
@@ -54,7 +54,7 @@ pub fn read_plan<T: Table + Drop, K: Sink>(
 /// The same by a table that was checked: all that is promised of valid tables holds of the run.
 pub fn read_plan_checked<T: CheckedTable + Drop, K: Sink>(
     table: T,
-    plan: Plan<'_>,
+    plan: Plan<'_, '_>,
     sink: K,
     calls: &[Call],
 ) -> PlanRead<K>

@@ -13,7 +13,7 @@ use totals::Totals;
 /// over the tokens of the plan.
 pub fn measure_plan<'a, T: Table + Drop, M: Measure + Copy + Drop>(
     table: T,
-    plan: Plan<'_>,
+    plan: Plan<'_, '_>,
     places: &'a mut [M],
     calls: &[Call],
 ) -> (Result<Report, PileRefusal>, &'a mut [M])

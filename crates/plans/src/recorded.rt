@@ -13,7 +13,7 @@ use trace::Trace;
 /// bytes begin with the records of the one tree of the plan, and behind them all is as it was.
 pub fn trace_plan<'a, T: Table + Drop>(
     table: T,
-    plan: Plan<'_>,
+    plan: Plan<'_, '_>,
     quota: u64,
     bytes: &'a mut [u8],
     calls: &[Call],

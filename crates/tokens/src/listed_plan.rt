@@ -30,7 +30,7 @@ pub fn list<S: Source>(heap: Global, source: &mut S) -> Result<Listing, AllocErr
 }
 
 // The tokens of a plan.
-pub fn list_plan(heap: Global, plan: Plan<'_>) -> Result<Listing, Refusal>
+pub fn list_plan(heap: Global, plan: Plan<'_, '_>) -> Result<Listing, Refusal>
     ensures { Answers plan.entry result }
 {
     let mut source = plan.open()?;
