@@ -1,20 +1,21 @@
 -- Sets of states, depth by depth and bit by bit.
-use Rattle.std.proofs.Common.{◌≡◌, ℕ, zero, suc, ◌+◌, ◌^◌, ◌<◌, ◌≤◌, Bool, true, false, not, ◌&&◌, eqb, ◌⊎◌, List, [], ◌∷◌, length, drop, is_some, Some, None, Option, sym, refl, ap, ◌∙◌, ap₂, inl, inr, arith, drop_of_length-le}
+use Rattle.std.proofs.Common.{◌≡◌, ℕ, zero, suc, ◌+◌, ◌-◌, ◌*◌, ◌/◌, ◌^◌, ◌<◌, ◌≤◌, Bool, true, false, not, ◌&&◌, T, eqb, ◌⊎◌, List, [], ◌∷◌, length, drop, is_some, Some, None, Option, sym, refl, ap, ◌∙◌, subst, ap₂, inl, inr, ⊎_elim, div-lt_iff_lt-mul, one-mul, arith, drop_of_length-le, pow_pos}
+use native.Mathlib.Nat.{pow-le-pow_right}
 use lib.Bits.{bit_and}
-use Rattle.std.proofs.lemmas.Bool.{cases_lt, lt-ltb, le-ltb, ne_eqb, false≢true}
+use Rattle.std.proofs.lemmas.Bool.{cases_lt, cases_Bool, lt-ltb, le-ltb, ne_eqb, false≢true}
 use Rattle.std.specs.Option.{MatchOption}
 use Rattle.table.specs.Automaton.{Automaton, nth}
 use Rattle.table.specs.Lawful.{narrow}
 use Rattle.table.specs.Hints.{Set, Hints, shadow}
-use Rattle.layout.specs.Choices.{given, present, implies}
+use Rattle.layout.specs.Choices.{given, present, implies, below}
 use Rattle.layout.specs.Records.{sixteen, member}
 use Rattle.layout.specs.Checking.{subset, covers}
 use Rattle.layout.specs.SafetyTests.{all_go, initial_alone}
-use Rattle.wellformed.proofs.Tests.{below_same}
+use Rattle.wellformed.proofs.Tests.{T_below, below_T, below_same}
 use Rattle.hinted.specs.Sets.{Holds, HoldsIfAny}
 use Rattle.hinted.proofs.Lists.{nth_some, nth_none}
 use Rattle.hinted.proofs.Held.{holds_some, holds_none}
-use Rattle.wellformed.proofs.Bits.{stands_none, stands_one, subset_is, alone_is}
+use Rattle.wellformed.proofs.Bits.{stands_none, stands_one, subset_is, alone_is, member_low}
 use Rattle.safety.specs.Parts.{alone, marked}
 
 -- THE STATE ITSELF
@@ -107,6 +108,69 @@ pub decided : (H : Hints) (s d : ℕ) (xs : List Set) {b : Bool} →
     covers_from d xs (marked H s) ≡ covers_from 0 xs (marked H s) → covers_from d xs (marked H s) ≡ b →
     b ≡ covers narrow xs (shadow H s)
 decided H s d xs kept e = sym e ∙ kept ∙ covers_marked H s xs
+
+-- BIT BY BIT
+
+-- what is left above s is not 0
+pub more_bits : (set s : ℕ) → set < 2 ^ narrow → (set / 2 ^ s ≡ 0 → ⊥) → s < narrow
+more_bits set s lt some =
+    ⊎_elim
+    (λ (q : s < narrow). q)
+    (λ (q : narrow ≤ s).
+    let p : 2 ^ narrow ≤ 2 ^ s = pow-le-pow_right {n = 2} (omega arith) q in
+    let k : set < 1 * 2 ^ s = rw one-mul (omega arith) in
+    let z : set / 2 ^ s < 1 = (div-lt_iff_lt-mul (pow_pos s)).1 k in
+    absurd (some (omega arith)))
+    (cases_lt s narrow)
+
+-- nothing is left from s on
+pub no_more : (set s x : ℕ) → set / 2 ^ s ≡ 0 → s ≤ x → member sixteen set x ≡ false
+no_more set s x e le =
+    ⊎_elim (λ (q : member sixteen set x ≡ true). absurd (no (subst T (sym q) tt))) (λ q. q) (cases_Bool _)
+  where
+    no : T (member sixteen set x) → ⊥
+    no h =
+        let z : set / 2 ^ s < 1 = omega arith in
+        let k : set < 1 * 2 ^ s = (div-lt_iff_lt-mul (pow_pos s)).0 z in
+        let few : set < 2 ^ s = rw one-mul at k in
+        let lt = member_low sixteen s set x few h in
+        omega arith
+
+says_true : {b : Bool} → T b → b ≡ true
+says_true {b = true} h = refl
+says_true {b = false} h = absurd h
+
+module _ (M : Automaton) (H : Hints) (set n : ℕ) where
+  -- the test of state s
+  abbrev pub goes : ℕ → Bool
+  goes s = implies (member sixteen set s) (present (M.goto s n))
+
+  -- states that are not in the set need no goto
+  pub skip : (s t : ℕ) → below s goes ≡ true → ((x : ℕ) → s ≤ x → x < s + t → member sixteen set x ≡ false) →
+      below (s + t) goes ≡ true
+  skip s t e none = says_true (below_T (s + t) goes test)
+    where
+      test : (k : ℕ) → k < s + t → T (goes k)
+      test k lt =
+          ⊎_elim
+          (λ (q : k < s). T_below s goes (subst T (sym e) tt) k q)
+          (λ (q : s ≤ k). subst (λ b. T (implies b (present (M.goto k n)))) (sym (none k q lt)) tt)
+          (cases_lt k s)
+
+  -- a state that is in it goes if it has one
+  pub goes_is : (s : ℕ) (o : Option ℕ) → member sixteen set s ≡ true → o ≡ M.goto s n → goes s ≡ is_some o
+  goes_is s o e f = ap (λ b. implies b (present (M.goto s n))) e ∙ ap present (sym f) ∙ there o
+    where
+      there : (o : Option ℕ) → present o ≡ is_some o
+      there None = refl
+      there (Some x) = refl
+
+  -- and none of those beyond the last
+  pub all_tested : (s : ℕ) → s ≤ narrow → below s goes ≡ true → set / 2 ^ s ≡ 0 →
+      all_go narrow M H (member sixteen set) n ≡ true
+  all_tested s le e none =
+      let all : s + (narrow - s) ≡ narrow = omega arith in
+      subst (λ k. below k goes ≡ true) all (skip s (narrow - s) e (λ x from to. no_more set s x none from))
 
 -- BELOW A STATE
 

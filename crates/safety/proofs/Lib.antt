@@ -1,2 +1,3 @@
 pub mod Depths
+pub mod Lowest
 pub mod OnTop

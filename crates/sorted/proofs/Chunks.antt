@@ -78,6 +78,11 @@ module _ (sh : Sheet) where
   pub row_at : (i : ℕ) (d : List ℕ) → i < count sh → get_or (rows_in sh) i d ≡ record_at sh i
   row_at i d lt = gather_at (count sh) (record_at sh) i d lt
 
+  -- the key of a row that is read by its place
+  pub row_key : (rs : List (List ℕ)) (i : ℕ) → rs ≡ rows_in sh → i < count sh →
+      key (get_or rs i []) ≡ key (record_at sh i)
+  row_key rs i e lt = ap (λ ys. key (get_or ys i [])) e ∙ ap key (row_at i [] lt)
+
   given_row : (b : Bool) (r : List ℕ) → option_map record_of (cond b (Some r) None) ≡ cond b (Some (record_of r)) None
   given_row true r = refl
   given_row false r = refl

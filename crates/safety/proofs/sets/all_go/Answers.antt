@@ -1,20 +1,41 @@
-use Rattle.std.proofs.Common.{ℕ, rules, tests, ◌∙◌, refl}
-use Rattle.std.proofs.lemmas.Iterator.{YieldsList-from_range}
-use Rattle.std.proofs.lemmas.Iterator.Consumers.{YieldsList-from_filter}
-use Rattle.std.proofs.lemmas.Iterator.Search.{all_from_yields_List}
+use Rattle.std.proofs.Common.{sym, ◌∙◌, arith}
 use Rattle.table.specs.Lawful.{narrow}
-use Rattle.layout.specs.Choices.{present}
-use Rattle.layout.specs.Records.{sixteen, member}
-use Rattle.hinted.proofs.Ranges.{all_filtered}
+use Rattle.wellformed.proofs.Loops.{below_start, below_more, below_fails}
+use Rattle.safety.proofs.Depths.{goes, skip, goes_is, all_tested}
+use Rattle.safety.proofs.Lowest.{found, shifted_on}
 use Rattle.safety.proofs.sets.all_go.Goals as goal
+
+pub loop-rest-init : goal.loop-rest-init
+loop-rest-init g c = (omega arith, below_start _, omega arith)
+
+pub returns-then-is_none : goal.returns-then-is_none
+returns-then-is_none g c =
+    let M = g.T.Table.meaning c.args.table.now in
+    let H = g.T.Hinted.hints c.args.table.now in
+    let set = c.args.set in
+    let at = found set _ c.loop-rest.s (omega arith) c.loop-rest.invariant.2 c.loop-rest-test.true in
+    let test = goes_is M H set c.args.n _ c.goto.result at.is_member c.goto.ensures in
+    sym (below_fails (goes M H set c.args.n) narrow _ at.within (test ∙ c.if-is_none.ensures))
+
+pub loop-rest-preserved : goal.loop-rest-preserved
+loop-rest-preserved g c =
+    let M = g.T.Table.meaning c.args.table.now in
+    let H = g.T.Hinted.hints c.args.table.now in
+    let set = c.args.set in
+    let n = c.args.n in
+    let (le, tested, left) = c.loop-rest.invariant in
+    let at = found set _ c.loop-rest.s (omega arith) left c.loop-rest-test.true in
+    let test = goes_is M H set n _ c.goto.result at.is_member c.goto.ensures in
+    let so_far = skip M H set n c.loop-rest.s _ tested at.skipped in
+    let next = shifted_on set _ c.loop-rest.s (omega arith) left c.loop-rest-test.true in (
+      omega (arith, at.within),
+      below_more (goes M H set n) _ so_far (test ∙ c.if-is_none.ensures),
+      c.above-rest.ensures ∙ next,
+    )
 
 pub returns : goal.returns
 returns g c =
     let M = g.T.Table.meaning c.args.table.now in
-    let has = member sixteen c.args.set in
-    let goes = λ (s : ℕ). present (M.goto s c.args.n) in
-    all_from_yields_List goes _ _ _ c.all.ensures.ran
-    (YieldsList-from_filter _ has (YieldsList-from_range 0 narrow narrow c.filter.ensures.source refl)
-    c.filter.ensures.closure (λ s b q k. search (rules, tests)))
-    (λ s b q k. search (rules, tests))
-    ∙ all_filtered narrow has goes
+    let H = g.T.Hinted.hints c.args.table.now in
+    let (le, tested, left) = c.loop-rest.invariant in
+    sym (all_tested M H c.args.set c.args.n c.loop-rest.s le tested (sym left ∙ c.loop-rest-test.false))
