@@ -7,7 +7,7 @@ use Rattle.layout.specs.Records.{Sheet, sheet}
 use Rattle.layout.specs.Opening.{opening_passes, opening}
 use Rattle.layout.specs.Checking.{checking_passes, verdict}
 use Rattle.wellformed.proofs.Tests.{none_or, some_or}
-use Rattle.wellformed.proofs.Told.{ok_none, err_some, or_itself, told_append}
+use Rattle.wellformed.proofs.Told.{ok_none, err_some, or_itself, told_append, refused_answer}
 use Rattle.sheet.proofs.Told.{first_told, rest_told}
 use Rattle.exactness.proofs.Exact.{passes_exactly_the_valid}
 use Rattle.exactness.proofs.Told.{verdict_tells_first}
@@ -60,3 +60,11 @@ module _ (bs : List ℕ) (r : Result (Unit {0}) Refusal) (h : r ≡ answered (ve
     λ e. (verdict_tells_first (sheet bs) x).0 (err_some _ x (sym e ∙ h)),
     λ t. h ∙ ap answered ((verdict_tells_first (sheet bs) x).1 t),
   )
+
+-- a sheet that fails a condition is refused, and one that fails none passes
+module _ (bs : List ℕ) where
+  pub refused : {x : Refusal} → verdict (sheet bs) ≡ Some x → Exact (Err x) bs × Told (Err x) bs
+  refused e = (exact_answer bs _ (refused_answer e), told_answer bs _ (refused_answer e))
+
+  pub passed : verdict (sheet bs) ≡ None → Exact (Ok tt) bs × Told (Ok tt) bs
+  passed e = (exact_answer bs _ (sym (ap answered e)), told_answer bs _ (sym (ap answered e)))

@@ -8,6 +8,11 @@ use Rattle.layout.specs.Checking.{unsafe_refused, incomplete_refused, checking_p
 use Rattle.wellformed.specs.Told.{Tells}
 use Rattle.exactness.specs.Exactness.{Meets}
 
+-- an answer without the sheet that it hands out
+abbrev pub answer_of : {A : Type 0} → Result A Refusal → Result (Unit {0}) Refusal
+answer_of (Ok s) = Ok tt
+answer_of (Err x) = Err x
+
 -- nothing is refused exactly where the bytes are a well-formed sheet, safe and complete
 abbrev pub Exact : Result (Unit {0}) Refusal → List ℕ → Type 0
 Exact r bs = (r ≡ Ok tt) ↔ Meets (sheet bs)

@@ -6,7 +6,7 @@ ghost use Rattle.layout.specs.Practice.{practice_bytes};
 ghost use Rattle.layout.specs.Checking.{verdict as verdict_on};
 ghost use Rattle.sheet.specs.Contents.{contents as bytes_in};
 ghost use Rattle.checker.specs.Contents.{contents};
-ghost use Rattle.checker.specs.Judged.{Exact, Told};
+ghost use Rattle.checker.specs.Judged.{answer_of, Exact, Told};
 
 use crate::checked::CheckedSheet;
 use crate::conditions::{check_completeness, check_safety};
@@ -27,6 +27,8 @@ impl<'a> CheckedSheet<'a> {
     pub fn from_bytes(bytes: &'a [u8]) -> Result<CheckedSheet<'a>, Refusal>
         ensures ok { IfOk result (λ s. (verdict_on (sheet bytes.now) ≡ None) × (contents s ≡ bytes.now)) }
         ensures err { IfErr result (λ x. verdict_on (sheet bytes.now) ≡ Some x) }
+        ensures exact { Exact (answer_of result) bytes.now }
+        ensures told { Told (answer_of result) bytes.now }
     {
         let raw = RawSheet::from_bytes(bytes)?;
         check_safety(&raw)?;

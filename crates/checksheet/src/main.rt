@@ -2,7 +2,7 @@
 #![tactic(auto)]
 
 ghost use Rattle.std.specs.Prelude.{◌≡◌};
-ghost use Rattle.checksheet.specs.Judged.{judged};
+ghost use Rattle.checksheet.specs.Judged.{judged, why};
 
 use anyhow::anyhow;
 use layout::Refusal;
@@ -21,7 +21,9 @@ fn judge(bytes: &[u8]) -> Result<usize, Refusal>
     Ok(sheet.records())
 }
 
-fn words(refusal: Refusal) -> &'static str {
+fn words(refusal: Refusal) -> &'static str
+    ensures { result.now ≡ why refusal }
+{
     match refusal {
         Refusal::Length => "no bytes, above 65,520, or no whole number of records",
         Refusal::Order { .. } => "the key of this record is not above the one before",
@@ -34,8 +36,8 @@ fn words(refusal: Refusal) -> &'static str {
     }
 }
 
-/// How it went with a file.
-#[derive(Clone, Copy, PartialEq, Eq)]
+/// How it went with a file, the worst last.
+#[derive(Clone, Copy, PartialEq, Eq, PartialOrd, Ord)]
 enum Told {
     WellFormed,
     Refused,
@@ -63,21 +65,24 @@ fn tell(rt: &HostRuntime, name: &str) -> io::Result<Told> {
 }
 
 fn main(rt: HostRuntime) -> anyhow::Result<()> {
-    let mut told = Vec::new(rt.alloc());
+    let mut worst = None;
     let mut lenient = false;
     for arg in env::args(&rt)?.skip(1) {
         match arg.as_str() {
             "--help" => return Ok(rt.println(USAGE)?),
             "--no-fail" => lenient = true,
-            name => told.push(tell(&rt, name)?)?,
+            name => worst = worst.max(Some(tell(&rt, name)?)),
         }
     }
-    if told.is_empty() {
-        rt.eprintln(USAGE)?;
-        return Err(anyhow!("no file was named"));
+    match worst {
+        None => {
+            rt.eprintln(USAGE)?;
+            Err(anyhow!("no file was named"))
+        }
+        Some(Told::WellFormed) => Ok(()),
+        Some(Told::Refused) if lenient => Ok(()),
+        Some(Told::Refused | Told::Unread) => Err(anyhow!(
+            "a file was refused or could not be read"
+        )),
     }
-    if told.contains(&Told::Unread) || (told.contains(&Told::Refused) && !lenient) {
-        return Err(anyhow!("a file was refused or could not be read"));
-    }
-    Ok(())
 }

@@ -19,7 +19,7 @@ use trace::Trace;
 pub struct Session<'s, T> {
     pub rt: &'s HostRuntime,
     pub request: &'s Request,
-    pub plan: Plan<'s>,
+    pub plan: Plan<'s, 's>,
     pub sheet: T,
 }
 
@@ -29,9 +29,9 @@ impl<'s, T: Sheet<'s>> Session<'s, T> {
         let places = self.request.records.saturating_mul(16);
         let mut records: Vec<u8> = vec![in self.rt.alloc(); 0; places]?;
         let sink = Quota::new(self.request.quota, Trace::new(records.as_mut_slice()));
-        let answer = self.read(sink)?;
-        show_events(self.rt, records.as_slice())?;
-        match answer {
+        let (answer, sink) = self.read(sink);
+        show_events(self.rt, sink.finish().finish())?;
+        match answer? {
             Ok(report) => {
                 self.show_end(report)?;
                 Ok(true)
@@ -43,14 +43,17 @@ impl<'s, T: Sheet<'s>> Session<'s, T> {
         }
     }
 
-    fn read<K: Sink + Drop>(&self, sink: K) -> io::Result<Result<Report, PileRefusal>> {
+    // The sink comes back with the answer, whatever that is.
+    fn read<K: Sink>(&self, sink: K) -> (io::Result<Result<Report, PileRefusal>>, K) {
         let source = match self.plan.open() {
             Ok(source) => source,
-            Err(refusal) => return Ok(Err(refusal)),
+            Err(refusal) => return (Ok(Err(refusal)), sink),
         };
         let mut reading = Reading::new(self.sheet, source, sink);
-        self.make_turns(&mut reading)?;
-        Ok(Ok(T::tell(&reading)))
+        let shown = self.make_turns(&mut reading);
+        let report = T::tell(&reading);
+        let (_, _, sink) = reading.finish();
+        (shown.map(|()| Ok(report)), sink)
     }
 
     fn make_turns<S: Source, K: Sink>(&self, reading: &mut Reading<T, S, K>) -> io::Result<()> {
