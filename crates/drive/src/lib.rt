@@ -69,7 +69,8 @@ pub fn drive<T: Table, S: Source, K: Sink>(
     close(reading)
 }
 
-/// The same by a table that was checked, so that what is promised of valid tables holds of the run.
+/// The same by a table that was checked: what is promised of valid tables holds of the run, and so of what a mark
+/// would tell.
 pub fn drive_checked<T: CheckedTable, S: Source, K: Sink>(
     table: T,
     source: S,

@@ -38,6 +38,7 @@ impl<'a> Trace<'a> {
     pub fn written(&self) -> usize
         ensures { result ≡ self.now.records }
     {
+        // No more than there are places.
         self.records
     }
 
