@@ -1,3 +1,4 @@
 pub mod Appended
 mod Fresh
 pub mod Piles
+pub mod Traced
