@@ -1,3 +1,2 @@
-pub mod Ahead
 pub mod Looking
 pub mod Opening

@@ -1,11 +1,11 @@
-ghost use Rattle.std.specs.Prelude.{◌≡◌, ◌≤◌, true, [], length, Some, Ok, Err, IfOk, MatchResult};
+ghost use Rattle.std.specs.Prelude.{◌≡◌, ◌≤◌, false, [], length, Some, Ok, Err, IfOk, MatchResult};
 ghost use Rattle.lexing.specs.Plans.{lexed_from};
 ghost use Rattle.lexing.specs.Reading.{TheReading};
-ghost use Rattle.lexer.specs.Ahead.{with_ahead, has_kind};
-ghost use Rattle.lexer.specs.Looking.{unread, stream, stream_kinded};
+ghost use Rattle.lexer.specs.Looking.{is_unread, unread, stream, stream_kinded};
 ghost use Rattle.lexer.specs.Opening.{open_answer, open_after};
 
 use crate::Lexer;
+use crate::ahead::Ahead;
 use crate::opening::PlanRefusal;
 use crate::scan::{blanks, item};
 use source::{Layered, Source, SourceFault};
@@ -43,41 +43,53 @@ impl<'a> Lexer<'a> {
         Ok(())
     }
 
-    // A lexer at the start of a plan, of which nothing was looked at.
+    // A lexer at the start of a plan. No token is remembered yet.
     fn over(plan: &'a [u8]) -> Lexer<'a>
         requires { length plan.now ≤ 65535 }
         ensures { stream result ≡ lexed_from 0 plan.now }
     {
+        let token = Token {
+            kind: 1,
+            place: 0,
+            length: 0,
+            value: 0,
+        };
         Lexer {
             plan,
             at: 0,
-            ahead: None,
+            ahead: Ahead::Unread,
+            token,
         }
     }
 
-    // The item that comes next: what the last look at it found, else a first look.
-    fn look(&mut self) -> Result<Option<Token>, SourceFault>
-        ensures looked { with_ahead result (unread self.new) ≡ stream self.old }
-        ensures kind { has_kind result ≡ true }
-    {
-        match self.ahead {
-            Some(seen) => seen,
-            None => self.scan(),
-        }
-    }
-
-    // Scans the item behind the position. Behind a token, the position moves on.
-    fn scan(&mut self) -> Result<Option<Token>, SourceFault>
-        ensures scanned { with_ahead result (unread self.new) ≡ unread self.old }
-        ensures kind { has_kind result ≡ true }
+    // Scans the item behind the position and remembers what it is.
+    fn scan(&mut self)
+        ensures same { stream self.new ≡ unread self.old }
+        ensures looked { is_unread self.new.ahead ≡ false }
     {
         let start = self.at + blanks(&self.plan[self.at..]);
         if start == self.plan.len() {
-            return Ok(None);
+            self.ahead = Ahead::Ended;
+            return;
         }
-        let token = item(&self.plan[start..], start as u32)?;
-        self.at = start + token.length as usize;
-        Ok(Some(token))
+        match item(&self.plan[start..], start as u32) {
+            Ok(token) => {
+                self.at = start + token.length as usize;
+                self.token = token;
+                self.ahead = Ahead::Seen;
+            }
+            Err(fault) => self.ahead = Ahead::Stuck(fault),
+        }
+    }
+
+    // Sees to it that the item behind the position is known: nothing is unread behind a look.
+    fn look(&mut self)
+        ensures same { stream self.new ≡ stream self.old }
+        ensures looked { is_unread self.new.ahead ≡ false }
+    {
+        if let Ahead::Unread = self.ahead {
+            self.scan();
+        }
     }
 }
 
@@ -97,18 +109,23 @@ impl Source for Lexer<'_> {
     ghost kinded = { stream_kinded };
 
     fn peek(&mut self) -> Result<Option<Token>, SourceFault> {
-        let seen = self.look();
-        self.ahead = Some(seen);
-        seen
+        self.look();
+        match self.ahead {
+            Ahead::Seen => Ok(Some(self.token)),
+            Ahead::Stuck(fault) => Err(fault),
+            Ahead::Ended | Ahead::Unread => Ok(None),
+        }
     }
 
     fn take(&mut self) -> Result<Option<Token>, SourceFault> {
-        let taken = self.look();
-        self.ahead = match taken {
-            Ok(Some(_)) => None,
-            // Nothing comes behind an ending.
-            Ok(None) | Err(_) => Some(taken),
-        };
-        taken
+        self.look();
+        match self.ahead {
+            Ahead::Seen => {
+                self.ahead = Ahead::Unread;
+                Ok(Some(self.token))
+            }
+            Ahead::Stuck(fault) => Err(fault),
+            Ahead::Ended | Ahead::Unread => Ok(None),
+        }
     }
 }

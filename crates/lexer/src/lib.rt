@@ -2,13 +2,14 @@
 #![tactic(auto)]
 
 ghost use Rattle.std.specs.Prelude.{◌≡◌, ◌≤◌, true, length};
-ghost use Rattle.lexer.specs.Ahead.{has_seen_kind};
+ghost use Rattle.streams.specs.Listed.{is_kind};
 
+use crate::ahead::Ahead;
 pub use opening::PlanRefusal;
-use source::SourceFault;
 pub use spell::spelling;
 use syntax::Token;
 
+mod ahead;
 mod calls;
 mod opening;
 mod scan;
@@ -18,11 +19,10 @@ mod spell;
 #[derive(Drop)]
 pub struct Lexer<'a> {
     plan: &'a [u8],
-    // Behind the token that was looked at, if one was.
     at: usize,
-    // What the look at the next item found. No item is looked at before it is asked for.
-    ahead: Option<Result<Option<Token>, SourceFault>>,
+    ahead: Ahead,
+    token: Token,
     ghost short: { length plan.now ≤ 65535 },
     ghost within: { at ≤ length plan.now },
-    ghost kind: { has_seen_kind ahead ≡ true },
+    ghost kind: { is_kind token.kind ≡ true },
 }

@@ -1,32 +1,48 @@
-use Rattle.std.proofs.Common.{◌+◌, ◌<◌, length, ap, arith}
-use Rattle.std.proofs.lemmas.Result.{err_from_is_err_and}
-use Rattle.lexing.proofs.Walk.{end_behind, fault_behind, token_behind, token_fits}
+use Rattle.std.proofs.Common.{◌+◌, ◌<◌, length, refl, ap, arith}
+use Rattle.lexing.proofs.Walk.{end_behind, fault_behind, token_behind, token_fits, token_kind}
 use Rattle.lexer.proofs.Lexer.scan.Goals as goal
+use Rattle.lexer.proofs.Lexer.scan.Goals.{Else-start-self}
 
-pub returns-then-start-self-clause-scanned : goal.returns-then-start-self-clause-scanned
-returns-then-start-self-clause-scanned c =
+pub returns-then-start-self : goal.returns-then-start-self
+returns-then-start-self c =
     let s = c.args.self.now in
     let h = ap (λ n. s.at + n) c.blanks.ensures.value in
-    end_behind s.plan.now s.at _ h c.if-start-self.true
+    record {
+      same = end_behind s.plan.now s.at _ h c.if-start-self.true;
+      looked = refl;
+    }
 
-pub returns-in_err-token-clause-scanned : goal.returns-in_err-token-clause-scanned
-returns-in_err-token-clause-scanned c =
+inside : (c : Else-start-self) → c.args.self.now.at + c.blanks.result < length c.args.self.now.plan.now
+inside c = omega (arith, c.blanks.ensures.within, c.if-start-self.false)
+
+pub invariant_of-self-in-Ok : goal.invariant_of-self-in-Ok
+invariant_of-self-in-Ok c =
     let s = c.args.self.now in
     let h = ap (λ n. s.at + n) c.blanks.ensures.value in
-    let lt : s.at + c.blanks.result < length s.plan.now = omega (arith, c.blanks.ensures.within, c.if-start-self.false) in
-    let p = err_from_is_err_and c.from_residual.result c.from_residual.ensures.1 in
-    rw (p.1, p.2) (fault_behind s.plan.now s.at _ h lt _ c.in_err-token.ensures)
+    let lt = inside (goal.at.invariant_of-self-in-Ok c).Else-start-self in
+    let i = c.in-Ok.ensures in
+    record {
+      short = s.short;
+      within = token_fits s.plan.now s.at _ h lt c.in-Ok.token i;
+      kind = token_kind s.plan.now s.at _ h lt c.in-Ok.token i;
+    }
 
-pub invariant_of-self-clause-within : goal.invariant_of-self-clause-within
-invariant_of-self-clause-within c =
+pub returns-in-Ok : goal.returns-in-Ok
+returns-in-Ok c =
     let s = c.args.self.now in
     let h = ap (λ n. s.at + n) c.blanks.ensures.value in
-    let lt : s.at + c.blanks.result < length s.plan.now = omega (arith, c.blanks.ensures.within, c.if-start-self.false) in
-    token_fits s.plan.now s.at _ h lt c.in_ok-token.token c.in_ok-token.ensures
+    let lt = inside (goal.at.returns-in-Ok c).Else-start-self in
+    record {
+      same = token_behind s.plan.now s.at _ h lt c.in-Ok.token c.in-Ok.ensures;
+      looked = refl;
+    }
 
-pub returns-clause-scanned : goal.returns-clause-scanned
-returns-clause-scanned c =
+pub returns-in-Err : goal.returns-in-Err
+returns-in-Err c =
     let s = c.args.self.now in
     let h = ap (λ n. s.at + n) c.blanks.ensures.value in
-    let lt : s.at + c.blanks.result < length s.plan.now = omega (arith, c.blanks.ensures.within, c.if-start-self.false) in
-    token_behind s.plan.now s.at _ h lt c.in_ok-token.token c.in_ok-token.ensures
+    let lt = inside (goal.at.returns-in-Err c).Else-start-self in
+    record {
+      same = fault_behind s.plan.now s.at _ h lt c.in-Err.fault c.in-Err.ensures;
+      looked = refl;
+    }
