@@ -1,6 +1,7 @@
 use source::SourceFault;
 
-// What a lexer knows of the item behind its position.
+// What a lexer knows of the item behind its position. An `Option` of what a peek answers took twice the time on marks that are
+// peeked, and what a peek answers alone wants a look before one is asked for.
 #[derive(Clone, Copy)]
 pub(crate) enum Ahead {
     // Nothing: it was not looked at yet.
