@@ -9,7 +9,7 @@ use crate::ahead::Ahead;
 use crate::opening::PlanRefusal;
 use crate::scan::{blanks, item};
 use source::{Layered, Source, SourceFault};
-use syntax::Token;
+use syntax::{Token, WORD};
 
 impl<'a> Lexer<'a> {
     /// A lexer of the empty plan.
@@ -49,7 +49,7 @@ impl<'a> Lexer<'a> {
         ensures { stream result ≡ lexed_from 0 plan.now }
     {
         let token = Token {
-            kind: 1,
+            kind: WORD,
             place: 0,
             length: 0,
             value: 0,

@@ -1,3 +1,4 @@
 pub mod Chunks
 pub mod Finds
+pub mod Halving
 pub mod Told
